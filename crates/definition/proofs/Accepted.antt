@@ -1,0 +1,271 @@
+-- A run of an accepted machine leaves an accepted machine, in either mode; its steps, its stop, and budgets that pass through one another.
+use mathlib.Core.Path.{_≡_, refl, sym, ap, _∙_, subst}
+use mathlib.Core.Logic.{_≢_}
+use mathlib.Core.Bool.{Bool, true, false, cond, true≢false, _&&_}
+use mathlib.Core.List.{List, [], _∷_}
+use Prim.Native.Nat.{ℕ, zero, suc, _+_, _-_, _<_, _≤_}
+use native.Mathlib.Omega.{arith}
+use lib.IntN.{ℤ, pos}
+use lib.ListN.{length, getD, set, length-set}
+use lib.Dec.{ltb, leb, eqb}
+use borrow.Author.Tests.{ltb-true, ltb-false, leb-false}
+use Rattle.definition.specs.declared.Marks.{Marks}
+use Rattle.definition.specs.declared.Error.{Error}
+use Rattle.definition.specs.declared.Error.the-variants.{DivByZero, InvalidInstruction, PrivilegedInstruction, Trap, InvalidMemoryAccess, CellError, Extract, InvalidPc, InvalidSp, InvalidSr, Reset}
+use Rattle.definition.specs.declared.Ran.{Ran}
+use Rattle.definition.specs.Constants.{CYCLES-END}
+use Rattle.definition.specs.Exception.{Ending, exception, stop, ending, HARDWARE-INTERRUPT, NO-HANDLER, OUTPUT-FULL, CYCLES-FULL}
+use Rattle.definition.specs.Memory.{word}
+use Rattle.definition.specs.Registers.{Reg, interruptEnable}
+use Rattle.definition.specs.Io.{Console, with-marks, with-pending, inputReady, status, readStatus, writeControl, around, readData, readPort, writeData, writePort, outputFull}
+use Rattle.definition.specs.Computer.{Core, Res, ok, err}
+use Rattle.definition.specs.Instructions.{Request, nothing, reads, writes, setRegister}
+use Rattle.definition.specs.Runtime.{Machine, machine, Executed, attempt, Turn, completes, enters, stops, ends, poll, conclude, serve, afterAttempt, turn, Outcome, completed, stopped, hasHandler, entered, recover, settle, reached, limit, step, Run, later, goOn, run}
+use Rattle.definition.specs.Calls.{Lent, lentMachine, lentOf, Called, passes, runCheck, ran, runRefused, runCall}
+use Rattle.definition.specs.UserMode.{Accepted}
+use Rattle.definition.specs.Accepted.{laterCall, RunLaws, RunsAccepted}
+use Rattle.definition.proofs.Keeps.{Good, k-set, attempt-keeps}
+use Rattle.definition.proofs.AcceptedCore.{AcceptedCore, Sound, any-laws, word-sound}
+use Rattle.definition.proofs.UserStep.{entered-accepted}
+use Rattle.definition.proofs.Row.{ConsoleIn, AcceptedMachine, machine-back, accepted-machine, machine-accepted}
+
+-- ---- the console
+
+marks-in : (k : Console) (x : Marks) → ConsoleIn k → ConsoleIn (with-marks x k)
+marks-in k x h =
+    record { some = h .some; few = h .few; small = h .small; start-in = h .start-in; count-in = h .count-in; written-in = h .written-in }
+
+around-in : (size n : ℕ) → 1 ≤ size → n < size → around size (suc n) < size
+unfolding around
+around-in size n h l = go (ltb (suc n) size) refl
+  where
+    go : (b : Bool) → ltb (suc n) size ≡ b → cond b (suc n) (suc n - size) < size
+    go true e = ltb-true (suc n) size e
+    go false e = let m : size ≤ suc n = ltb-false (suc n) size e in omega arith
+
+data-in : (k : Console) → ConsoleIn k → ConsoleIn (readData k .1)
+unfolding readData
+data-in k h = go (inputReady (k .count))
+  where
+    go : (b : Bool) → ConsoleIn ((cond {A = ℕ × Console} b (getD (k .queue) (k .start) 0, record { marks = k .marks; queue = k .queue; start = around (length (k .queue)) (suc (k .start)); count = k .count - 1; output = k .output; written = k .written }) (0, k)) .1)
+    go true =
+        let l = h .count-in in
+        record { some = h .some; few = h .few; small = h .small; start-in = around-in _ _ (h .some) (h .start-in); count-in = omega arith; written-in = h .written-in }
+    go false = h
+
+read-in : (p : ℕ) (k : Console) → ConsoleIn k → ConsoleIn (readPort p k .1)
+unfolding readPort
+read-in p k h = go (eqb p 110) (eqb p 111)
+  where
+    go : (b d : Bool) → ConsoleIn ((cond b (status (inputReady (k .count)) (k .marks), with-marks (readStatus (k .marks)) k) (cond d (readData k) (0, k))) .1)
+    go true d = marks-in k _ h
+    go false true = data-in k h
+    go false false = h
+
+write-in : (p : ℕ) (w : ℤ) (k : Console) → ConsoleIn k → outputFull p k ≡ false → ConsoleIn (writePort p w k)
+unfolding writePort outputFull writeData
+write-in p w k h e = go (eqb p 110) (eqb p 111) refl
+  where
+    go : (b d : Bool) → eqb p 111 ≡ d → ConsoleIn (cond b (with-marks (writeControl (inputReady (k .count)) w (k .marks)) k) (cond d (writeData w k) k))
+    go true d q = marks-in k _ h
+    go false true q =
+        let room : leb (length (k .output)) (k .written) ≡ false = sym (ap (λ (x : Bool). x && leb (length (k .output)) (k .written)) q) ∙ e in
+        let less : k .written < length (k .output) = leb-false _ _ room in
+        record { some = h .some; few = h .few; small = simp length-set (h .small); start-in = h .start-in; count-in = h .count-in; written-in = simp length-set less }
+    go false false q = h
+
+-- ---- a step
+
+-- what acceptance says, cycles aside
+pub record Both (m : Machine) : Type 0 where
+  pub core-in : AcceptedCore (m .core)
+  pub console-in : ConsoleIn (m .console)
+
+-- P holds of the machine, and a stop's number is not 0
+abbrev TurnHas : (Machine → Type 0) → Turn → Type 0
+TurnHas P (completes m) = P m
+TurnHas P (enters k m) = P m
+TurnHas P (stops n d m) = (1 ≤ n) × P m
+
+abbrev pub OutcomeHas : (Machine → Type 0) → Outcome → Type 0
+OutcomeHas P (completed m) = P m
+OutcomeHas P (stopped n d m) = (1 ≤ n) × P m
+
+ends-in : (e : Error) (m : Machine) → Both m → TurnHas Both (ends (ending e) m)
+unfolding ends ending
+ends-in DivByZero m b = b
+ends-in InvalidInstruction m b = b
+ends-in PrivilegedInstruction m b = b
+ends-in Trap m b = b
+ends-in InvalidMemoryAccess m b = b
+ends-in CellError m b = (omega arith, b)
+ends-in Extract m b = (omega arith, b)
+ends-in InvalidPc m b = (omega arith, b)
+ends-in InvalidSp m b = (omega arith, b)
+ends-in InvalidSr m b = (omega arith, b)
+ends-in Reset m b = (omega arith, b)
+
+poll-in : (m : Machine) → Both m → TurnHas Both (poll m)
+unfolding poll
+poll-in m b = go (interruptEnable (m .core .regs) && m .console .marks .pending)
+  where
+    go : (t : Bool) → TurnHas Both (cond t (enters HARDWARE-INTERRUPT (machine (m .core) (m .cycles) (with-marks (with-pending false (m .console .marks)) (m .console)))) (completes m))
+    go true = record { core-in = b .core-in; console-in = marks-in (m .console) _ (b .console-in) }
+    go false = b
+
+abbrev GoodAny : {X : Type 0} → Res X → Type 0
+GoodAny {X} r = Good AcceptedCore Sound (Unit {0}) (λ (q : Request). Unit {0}) any-laws (λ (x : X). Unit {0}) r
+
+conclude-in : (cost n : ℕ) (k : Console) (r : Res (Unit {0})) → ConsoleIn k → GoodAny r → TurnHas Both (conclude cost n k r)
+unfolding conclude
+conclude-in cost n k (ok u c) h g = poll-in (machine c (n + cost) k) (record { core-in = g .1; console-in = h })
+conclude-in cost n k (err e c) h g = ends-in e (machine c n k) (record { core-in = g; console-in = h })
+
+serve-in : (m : Machine) (q : Request) (cost : ℕ) (c : Core) → Both m → AcceptedCore c → TurnHas Both (serve m q cost c)
+unfolding serve
+serve-in m nothing cost c b f = conclude-in cost (m .cycles) (m .console) (ok tt c) (b .console-in) (tt, f)
+serve-in m (reads p r) cost c b f =
+    conclude-in cost (m .cycles) (readPort p (m .console) .1) (setRegister r (word (pos (readPort p (m .console) .0))) c) (read-in p (m .console) (b .console-in)) (k-set AcceptedCore Sound (Unit {0}) (λ (q : Request). Unit {0}) any-laws r _ (word-sound _) .at c f)
+serve-in m (writes p w) cost c b f = go (outputFull p (m .console)) refl
+  where
+    go : (t : Bool) → outputFull p (m .console) ≡ t → TurnHas Both (cond t (stops OUTPUT-FULL 0 m) (conclude cost (m .cycles) (writePort p w (m .console)) (ok tt c)))
+    go true e = (omega arith, b)
+    go false e =
+        conclude-in cost (m .cycles) (writePort p w (m .console)) (ok tt c) (write-in p w (m .console) (b .console-in) e) (tt, f)
+
+after-in : (m : Machine) (r : Res Executed) → Both m → GoodAny r → TurnHas Both (afterAttempt m r)
+unfolding afterAttempt
+after-in m (ok x c) b g = serve-in m (x .request) (x .cost) c b (g .1)
+after-in m (err e c) b g = ends-in e (machine c (m .cycles) (m .console)) (record { core-in = g; console-in = b .console-in })
+
+settle-in : (t : Turn) → TurnHas Both t → OutcomeHas Both (settle t)
+unfolding settle recover entered
+settle-in (completes m) b = b
+settle-in (enters k m) b = go (hasHandler (m .core .cells))
+  where
+    go : (t : Bool) → OutcomeHas Both (cond t (completed (entered k m)) (stopped NO-HANDLER k m))
+    go true = record { core-in = entered-accepted k (m .core) (b .core-in); console-in = b .console-in }
+    go false = (omega arith, b)
+settle-in (stops n d m) b = b
+
+limit-in : (m : Machine) → AcceptedMachine m → (o : Outcome) → OutcomeHas Both o → OutcomeHas AcceptedMachine (limit m o)
+unfolding limit reached
+limit-in m a (completed m') h = go (ltb (m' .cycles) CYCLES-END) refl
+  where
+    go : (b : Bool) → ltb (m' .cycles) CYCLES-END ≡ b → OutcomeHas AcceptedMachine (cond b (completed m') (stopped CYCLES-FULL 0 m))
+    go true e = record { core-in = h .core-in; cycles-in = ltb-true _ _ e; console-in = h .console-in }
+    go false e = (omega arith, a)
+limit-in m a (stopped n d m') h = go (ltb (m' .cycles) CYCLES-END) refl
+  where
+    go : (b : Bool) → ltb (m' .cycles) CYCLES-END ≡ b → OutcomeHas AcceptedMachine (cond b (stopped n d m') (stopped CYCLES-FULL 0 m))
+    go true e = (h .0, record { core-in = h .1 .core-in; cycles-in = ltb-true _ _ e; console-in = h .1 .console-in })
+    go false e = (omega arith, a)
+
+pub step-accepted : (m : Machine) → AcceptedMachine m → OutcomeHas AcceptedMachine (step m)
+unfolding step turn
+step-accepted m a =
+    let b : Both m = record { core-in = a .core-in; console-in = a .console-in } in
+    limit-in m a (settle (turn m)) (settle-in (turn m) (after-in m (attempt (m .core)) b (attempt-keeps AcceptedCore Sound (Unit {0}) (λ (q : Request). Unit {0}) any-laws (m .core) (a .core-in))))
+
+-- ---- a run
+
+pub record RunEnds (n : ℕ) (r : Run) : Type 0 where
+  pub left-in : AcceptedMachine (r .left)
+  pub within : r .steps ≤ n
+  pub spent : r .stop ≡ 0 → r .steps ≡ n
+  pub whole : r .steps ≡ n → r .stop ≡ 0
+
+go-on-ends : (n : ℕ) (o : Outcome) (k : Machine → Run) → OutcomeHas AcceptedMachine o → ((m : Machine) → AcceptedMachine m → RunEnds n (k m)) → RunEnds (suc n) (goOn o k)
+unfolding goOn later
+go-on-ends n (completed m) k a h =
+    let r = h m a in
+    record { left-in = r .left-in; within = (let w = r .within in omega arith); spent = λ e. (let s = r .spent e in omega arith); whole = λ e. r .whole (omega arith) }
+go-on-ends n (stopped s d m) k a h =
+    let l = a .0 in record { left-in = a .1; within = omega arith; spent = λ e. absurd (omega arith); whole = λ e. absurd (omega arith) }
+
+pub run-ends : (n : ℕ) (m : Machine) → AcceptedMachine m → RunEnds n (run n m)
+unfolding run
+run-ends zero m a = record { left-in = a; within = omega arith; spent = λ e. refl; whole = λ e. refl }
+run-ends (suc n) m a = go-on-ends n (step m) (run n) (step-accepted m a) (λ m' a'. run-ends n m' a')
+
+later-zero : (r : Run) → later 0 r ≡ r
+unfolding later
+later-zero r = let e : 0 + r .steps ≡ r .steps = omega arith in λ i. record { stop = r .stop; detail = r .detail; steps = e i; left = r .left }
+
+later-suc : (n : ℕ) (r : Run) → later 1 (later n r) ≡ later (suc n) r
+unfolding later
+later-suc n r =
+    let e : 1 + (n + r .steps) ≡ suc n + r .steps = omega arith in λ i. record { stop = r .stop; detail = r .detail; steps = e i; left = r .left }
+
+later-stop : (n : ℕ) (r : Run) → later n r .stop ≡ r .stop
+unfolding later
+later-stop n r = refl
+
+later-left : (n : ℕ) (r : Run) → later n r .left ≡ r .left
+unfolding later
+later-left n r = refl
+
+-- a budget passes through the machine of each smaller one
+go-on-through : (n b k : ℕ) (o : Outcome) → OutcomeHas AcceptedMachine o → ((m : Machine) → AcceptedMachine m → run n m .stop ≡ 0 → run b m ≡ later n (run k (run n m .left))) → goOn o (run n) .stop ≡ 0 → goOn o (run b) ≡ later (suc n) (run k (goOn o (run n) .left))
+unfolding goOn
+go-on-through n b k (completed m) a ih e =
+    ap (later 1) (ih m a (sym (later-stop 1 (run n m)) ∙ e)) ∙ later-suc n _ ∙ ap (λ (x : Machine). later (suc n) (run k x)) (sym (later-left 1 (run n m)))
+go-on-through n b k (stopped s d m) a ih e = let l = a .0 in absurd (omega arith)
+
+pub run-through : (n k b : ℕ) → n + k ≡ b → (m : Machine) → AcceptedMachine m → run n m .stop ≡ 0 → run b m ≡ later n (run k (run n m .left))
+unfolding run
+run-through zero k b h m a e = let q : b ≡ k = omega arith in ap (λ (x : ℕ). run x m) q ∙ sym (later-zero (run k m))
+run-through (suc n) k zero h m a e = absurd (omega arith)
+run-through (suc n) k (suc b) h m a e =
+    go-on-through n b k (step m) (step-accepted m a) (λ m' a' e'. run-through n k b (omega arith) m' a' e') e
+
+go-on-ended : (n b : ℕ) (o : Outcome) → OutcomeHas AcceptedMachine o → ((m : Machine) → AcceptedMachine m → run n m .stop ≢ 0 → run b m ≡ run n m) → goOn o (run n) .stop ≢ 0 → goOn o (run b) ≡ goOn o (run n)
+unfolding goOn
+go-on-ended n b (completed m) a ih e = ap (later 1) (ih m a (λ z. e (later-stop 1 (run n m) ∙ z)))
+go-on-ended n b (stopped s d m) a ih e = refl
+
+pub run-ended : (n k b : ℕ) → n + k ≡ b → (m : Machine) → AcceptedMachine m → run n m .stop ≢ 0 → run b m ≡ run n m
+unfolding run
+run-ended zero k b h m a e = absurd (e refl)
+run-ended (suc n) k zero h m a e = absurd (omega arith)
+run-ended (suc n) k (suc b) h m a e =
+    go-on-ended n b (step m) (step-accepted m a) (λ m' a' e'. run-ended n k b (omega arith) m' a' e') e
+
+-- ---- the calls
+
+-- a call of run on what an accepted machine is written to
+pub call-is : (b : ℕ) (l : Lent) → Accepted l → runCall b l ≡ ran (run b (lentMachine l))
+unfolding runCall
+call-is b l h = ap (λ (t : Bool). cond t (ran (run b (lentMachine l))) (runRefused (runCheck l) l)) h
+
+pub call-on : (b : ℕ) (m : Machine) → AcceptedMachine m → runCall b (lentOf m) ≡ ran (run b m)
+call-on b m a = call-is b (lentOf m) (machine-accepted m a) ∙ ap (λ (x : Machine). ran (run b x)) (machine-back m)
+
+ran-left : (r : Run) → ran r .left ≡ lentOf (r .left)
+unfolding ran
+ran-left r = refl
+
+later-ran : (n : ℕ) (r : Run) → ran (later n r) ≡ laterCall n (ran r)
+unfolding ran later
+later-ran n r = refl
+
+pub runs-accepted : RunsAccepted
+unfolding ran
+runs-accepted b l h =
+    let m = lentMachine l in
+    let a = accepted-machine l h in
+    let r = run-ends b m a in
+    let c = call-is b l h in
+    record {
+      stays = subst (λ (x : Called Ran Lent). Accepted (x .left)) (sym c) (machine-accepted _ (r .left-in));
+      within = subst (λ (x : Called Ran Lent). x .answer .steps ≤ b) (sym c) (r .within);
+      spent = λ e. ap (λ (x : Called Ran Lent). x .answer .steps) c ∙ r .spent (sym (ap (λ (x : Called Ran Lent). x .answer .stop) c) ∙ e);
+      whole = λ e. ap (λ (x : Called Ran Lent). x .answer .stop) c ∙ r .whole (sym (ap (λ (x : Called Ran Lent). x .answer .steps) c) ∙ e);
+      through = λ n k q e.
+          (let d = call-is n l h in
+          let s : run n m .stop ≡ 0 = sym (ap (λ (x : Called Ran Lent). x .answer .stop) d) ∙ e in
+          c ∙ ap ran (run-through n k b q m a s) ∙ later-ran n (run k (run n m .left)) ∙ ap (laterCall n) (sym (ap (λ (x : Called Ran Lent). runCall k (x .left)) d ∙ call-on k (run n m .left) (run-ends n m a .left-in))));
+      ended = λ n k q e.
+          (let d = call-is n l h in
+          c ∙ ap ran (run-ended n k b q m a (λ z. e (ap (λ (x : Called Ran Lent). x .answer .stop) d ∙ z))) ∙ sym d);
+    }

@@ -1,0 +1,11 @@
+pub mod Bits
+pub mod Words
+pub mod Course
+pub mod Keeps
+pub mod AcceptedCore
+pub mod UserStep
+pub mod UserRun
+pub mod Row
+pub mod Accepted
+pub mod Refused
+pub mod UserMode

@@ -1,0 +1,57 @@
+-- constants.rs, and the limits that document 01 adds.
+use Prim.Native.Nat.{ℕ, _^_}
+
+-- "pc, sr and code go to cells 100, 101, 102"
+abbrev pub INTERRUPT-PC-SAVE : ℕ
+INTERRUPT-PC-SAVE = 100
+
+abbrev pub INTERRUPT-SR-SAVE : ℕ
+INTERRUPT-SR-SAVE = 101
+
+abbrev pub INTERRUPT-EXCEPTION : ℕ
+INTERRUPT-EXCEPTION = 102
+
+-- "through cell 200"
+abbrev pub INTERRUPT-HANDLER : ℕ
+INTERRUPT-HANDLER = 200
+
+-- "a serial console on ports 110 and 111"
+abbrev pub SERIAL-STATUS-PORT : ℕ
+SERIAL-STATUS-PORT = 110
+
+abbrev pub SERIAL-DATA-PORT : ℕ
+SERIAL-DATA-PORT = 111
+
+-- The flags' bits in the status word: "five different single bits at the positions of `StatusRegister`".
+abbrev pub ZERO : ℕ
+ZERO = 1
+
+abbrev pub NEGATIVE : ℕ
+NEGATIVE = 2
+
+abbrev pub OVERFLOW : ℕ
+OVERFLOW = 3
+
+abbrev pub INTERRUPT-ENABLE : ℕ
+INTERRUPT-ENABLE = 8
+
+abbrev pub SUPERVISOR : ℕ
+SUPERVISOR = 9
+
+-- "256 to 10,000 cells"
+abbrev pub CELLS-LEAST : ℕ
+CELLS-LEAST = 256
+
+abbrev pub CELLS-MOST : ℕ
+CELLS-MOST = 10000
+
+-- "The queue is not 1 to 4,096 bytes." "The output record is over 65,536 bytes."
+abbrev pub QUEUE-MOST : ℕ
+QUEUE-MOST = 4096
+
+abbrev pub OUTPUT-MOST : ℕ
+OUTPUT-MOST = 65536
+
+-- "cycles (0 to 2^63 - 1)": the first number that is too many
+abbrev pub CYCLES-END : ℕ
+CYCLES-END = 2 ^ 63

@@ -1,0 +1,179 @@
+-- "Course cases": the starred ones as one table, with three more rows: 255 and 256 cells, a privileged instruction in user mode, and an
+-- interrupt. The proof is proofs/Course.
+use mathlib.Core.Path.{_≡_}
+use mathlib.Core.List.{List, [], _∷_}
+use Prim.Native.Nat.{ℕ, _*_}
+use lib.IntN.{ℤ, pos, negsuc}
+use lib.ListN.{replicate}
+use Rattle.definition.specs.declared.Cell.{Cell}
+use Rattle.definition.specs.declared.Ran.{Ran}
+use Rattle.definition.specs.Word.{smallest}
+use Rattle.definition.specs.Memory.{cell, empty, word, cellCount, cellAt, putCell}
+use Rattle.definition.specs.Encoding.{tagOf}
+use Rattle.definition.specs.Calls.{Lent, lent, Called, runCall, at, cellOfRow}
+
+-- A cell of the image, by its address.
+pub record Line : Type 0 where
+  pub address : ℕ
+  pub holds : Cell
+
+abbrev pub line : ℕ → Cell → Line
+line n v = record { address = n; holds = v }
+
+-- An instruction by op, m1, m2, r1, r2 and its two numbers.
+abbrev pub inst : ℕ → ℕ → ℕ → ℕ → ℕ → ℤ → ℤ → Cell
+inst o m₁ m₂ r₁ r₂ f s = cell (pos (tagOf o m₁ m₂ r₁ r₂)) f s
+
+-- A machine with so many cells, empty but for the image, and a, pc, sp, sr and pending mark; the rest as in the runner. Afterwards one cell
+-- is looked at.
+pub record Case : Type 0 where
+  pub size : ℕ
+  pub image : List Line
+  pub a : Cell
+  pub pc : ℕ
+  pub sp : ℕ
+  pub sr : ℤ
+  pub pending : ℤ
+  pub budget : ℕ
+  pub look : ℕ
+
+abbrev case : ℕ → List Line → Cell → ℕ → ℕ → ℕ → ℕ → Case
+case n i a pc sp b k =
+    record { size = n; image = i; a = a; pc = pc; sp = sp; sr = pos 0; pending = pos 0; budget = b; look = k }
+
+-- nop with I set and the pending mark set
+abbrev interrupted : ℕ → List Line → ℕ → Case
+interrupted n i k =
+    record { size = n; image = i; a = empty; pc = 0; sp = 0; sr = pos 256; pending = pos 1; budget = 1; look = k }
+
+-- What is looked at afterwards: refusal, stop, detail and steps; pc, sp, sr, cycles, pending mark and output count; a; and one cell.
+pub record Shown : Type 0 where
+  pub refusal : ℕ
+  pub stop : ℕ
+  pub detail : ℕ
+  pub steps : ℕ
+  pub pc : ℤ
+  pub sp : ℤ
+  pub sr : ℤ
+  pub cycles : ℤ
+  pub pending : ℤ
+  pub written : ℤ
+  pub a : Cell
+  pub there : Cell
+
+abbrev done : ℕ → ℕ → ℕ → ℤ → ℤ → ℤ → ℤ → Cell → Cell → Shown
+done stop detail steps pc sp sr cycles a v =
+    record { refusal = 0; stop = stop; detail = detail; steps = steps; pc = pc; sp = sp; sr = sr; cycles = cycles; pending = pos 0; written = pos 0; a = a; there = v }
+
+-- A case and what it shows.
+pub record Row : Type 0 where
+  pub given : Case
+  pub expected : Shown
+
+abbrev gives : Case → Shown → Row
+gives c s = record { given = c; expected = s }
+
+-- add 5,%a · reset · div n,%a · shl n,%a · nop · push 7 · swap [%a],%a · fas [5],%sr · ld [10000],%a · st %a,[10000] · in [110],%a
+abbrev add5 : Cell
+add5 = cell (pos 202) (pos 5) (pos 0)
+
+abbrev reset : Cell
+reset = cell (pos 20702) (pos 0) (pos 0)
+
+abbrev div : ℤ → Cell
+div n = cell (pos 3802) n (pos 0)
+
+abbrev shl : ℤ → Cell
+shl n = inst 26 1 2 0 0 n (pos 0)
+
+abbrev nop : Cell
+nop = inst 17 0 0 0 0 (pos 0) (pos 0)
+
+abbrev push7 : Cell
+push7 = inst 22 1 0 0 0 (pos 7) (pos 0)
+
+abbrev swapA : Cell
+swapA = inst 30 4 2 0 0 (pos 0) (pos 0)
+
+abbrev fasSr : Cell
+fasSr = inst 5 3 2 0 4 (pos 5) (pos 0)
+
+abbrev ldOutside : Cell
+ldOutside = inst 14 3 2 0 0 (pos 10000) (pos 0)
+
+abbrev stOutside : Cell
+stOutside = inst 28 2 3 0 0 (pos 0) (pos 10000)
+
+abbrev inStatus : Cell
+inStatus = inst 6 3 2 0 0 (pos 110) (pos 0)
+
+abbrev one : Cell
+one = word (pos 1)
+
+unfoldable pub table : List Row
+table =
+    -- "the run above"
+    gives (case 2048 (line 0 add5 ∷ line 1 reset ∷ []) empty 0 0 100000 1) (done 1 0 1 (pos 1) (pos 0) (pos 0) (pos 1) (word (pos 5)) reset)
+    -- "div 0,%a (3802,0,0), no handler: stop 2, code 1, pc moved"
+    ∷ gives (case 256 (line 0 (div (pos 0)) ∷ []) empty 0 0 1 0) (done 2 1 0 (pos 1) (pos 0) (pos 0) (pos 0) empty (div (pos 0)))
+    -- "smallest / -1: code 1; smallest / 1: kept"
+    ∷ gives (case 256 (line 0 (div (negsuc 0)) ∷ []) (word smallest) 0 0 1 0) (done 2 1 0 (pos 1) (pos 0) (pos 0) (pos 0) (word smallest) (div (negsuc 0)))
+    ∷ gives (case 256 (line 0 (div (pos 1)) ∷ []) (word smallest) 0 0 1 0) (done 0 0 1 (pos 1) (pos 0) (pos 4) (pos 1) (word smallest) (div (pos 1)))
+    -- "shift 63 taken, 64 and -1: code 2"
+    ∷ gives (case 256 (line 0 (shl (pos 63)) ∷ []) one 0 0 1 0) (done 0 0 1 (pos 1) (pos 0) (pos 4) (pos 1) (word smallest) (shl (pos 63)))
+    ∷ gives (case 256 (line 0 (shl (pos 64)) ∷ []) one 0 0 1 0) (done 2 2 0 (pos 1) (pos 0) (pos 0) (pos 0) one (shl (pos 64)))
+    ∷ gives (case 256 (line 0 (shl (negsuc 0)) ∷ []) one 0 0 1 0) (done 2 2 0 (pos 1) (pos 0) (pos 0) (pos 0) one (shl (negsuc 0)))
+    -- "budget 0: stop 0, 0 steps"
+    ∷ gives (case 256 (line 0 (div (pos 0)) ∷ []) empty 0 0 0 0) (done 0 0 0 (pos 0) (pos 0) (pos 0) (pos 0) empty (div (pos 0)))
+    -- "pc 9,999 fetches, 10,000 code 5"
+    ∷ gives (case 10000 (line 9999 nop ∷ []) empty 9999 0 2 9999) (done 2 5 1 (pos 10000) (pos 0) (pos 0) (pos 1) empty nop)
+    ∷ gives (case 10000 [] empty 10000 0 1 9999) (done 2 5 0 (pos 10000) (pos 0) (pos 0) (pos 0) empty empty)
+    -- "push at sp 0"
+    ∷ gives (case 256 (line 0 push7 ∷ []) empty 0 0 1 0) (done 2 5 0 (pos 1) (pos 4294967295) (pos 0) (pos 0) empty push7)
+    -- "swap [%a],%a writes through the new a"
+    ∷ gives (case 256 (line 0 swapA ∷ line 5 (word (pos 9)) ∷ []) (word (pos 5)) 0 0 1 9) (done 0 0 1 (pos 1) (pos 0) (pos 0) (pos 2) (word (pos 9)) (word (pos 5)))
+    -- "fas [5],%sr in user mode: cell 5 word 1, code 3", with a handler
+    ∷ gives (case 256 (line 0 fasSr ∷ line 200 nop ∷ []) empty 0 0 1 5) (done 0 0 1 (pos 200) (pos 0) (pos 512) (pos 1) empty one)
+    -- "ld [10000],%a: stop 4; st to it: code 5"
+    ∷ gives (case 10000 (line 9998 ldOutside ∷ []) empty 9998 0 1 9999) (done 4 0 0 (pos 9999) (pos 0) (pos 0) (pos 0) empty empty)
+    ∷ gives (case 10000 (line 9998 stOutside ∷ []) empty 9998 0 1 9999) (done 2 5 0 (pos 9999) (pos 0) (pos 0) (pos 0) empty empty)
+    -- "255 and 256 cells"
+    ∷ gives
+    (case 255 (line 0 nop ∷ []) empty 0 0 1 0)
+    (record { refusal = 1; stop = 0; detail = 0; steps = 0; pc = pos 0; sp = pos 0; sr = pos 0; cycles = pos 0; pending = pos 0; written = pos 0; a = empty; there = nop })
+    ∷ gives (case 256 (line 0 nop ∷ []) empty 0 0 1 255) (done 0 0 1 (pos 1) (pos 0) (pos 0) (pos 1) empty empty)
+    -- "in, out and rti check S first": in [110],%a in user mode enters code 3
+    ∷ gives (case 256 (line 0 inStatus ∷ line 200 nop ∷ []) empty 0 0 1 102) (done 0 0 1 (pos 200) (pos 0) (pos 512) (pos 1) empty (word (pos 3)))
+    -- "the pending mark is taken and, if it was set, code 0 is entered", with the old sr in cell 101 and I clear
+    ∷ gives (interrupted 256 (line 0 nop ∷ line 200 nop ∷ []) 101) (done 0 0 1 (pos 200) (pos 0) (pos 512) (pos 2) empty (word (pos 256)))
+    ∷ []
+
+-- ---- what a case gives
+
+unfoldable pub cellsOf : ℕ → List Line → List ℤ
+cellsOf n [] = replicate (3 * n) (pos 0)
+cellsOf n (i ∷ is) = putCell (cellsOf n is) (i .address) (i .holds)
+
+unfoldable pub lentCase : Case → Lent
+lentCase c =
+    lent
+    (cellsOf (c .size) (c .image))
+    (replicate 256 0)
+    (replicate 4096 0)
+    (c .a .tag ∷ c .a .first ∷ c .a .second ∷ pos 0 ∷ pos 0 ∷ pos 0 ∷ pos (c .pc) ∷ pos (c .sp) ∷ c .sr ∷ pos 0 ∷ pos 0 ∷ pos 0 ∷ c .pending ∷ pos 0 ∷ pos 0 ∷ pos 0 ∷ [])
+
+unfoldable pub shown : ℕ → Called Ran Lent → Shown
+shown look r =
+    let row = r .left .row in
+    record { refusal = r .answer .refusal; stop = r .answer .stop; detail = r .answer .detail; steps = r .answer .steps; pc = at 7 row; sp = at 8 row; sr = at 9 row; cycles = at 10 row; pending = at 13 row; written = at 16 row; a = cellOfRow 1 row; there = cellAt (r .left .cells) look }
+
+unfoldable pub results : List Row → List Shown
+results [] = []
+results (r ∷ rs) = shown (r .given .look) (runCall (r .given .budget) (lentCase (r .given))) ∷ results rs
+
+unfoldable pub expectations : List Row → List Shown
+expectations [] = []
+expectations (r ∷ rs) = r .expected ∷ expectations rs
+
+abbrev pub Course : Type 0
+Course = results table ≡ expectations table

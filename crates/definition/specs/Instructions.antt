@@ -1,0 +1,244 @@
+-- instructions.rs: what each instruction does, the effects in the order of the lines.
+use mathlib.Core.Bool.{Bool, true, false, not, cond, _&&_, _||_}
+use Prim.Native.Nat.{ℕ, zero, suc, _-_}
+use lib.IntN.{ℤ, pos, negsuc, negℤ, natAbs, _+ℤ_, _-ℤ_, _*ℤ_}
+use lib.Signed.{ltZ}
+use Rattle.definition.specs.declared.Cell.{Cell}
+use Rattle.definition.specs.declared.Registers.{Registers}
+use Rattle.definition.specs.declared.Wrapped.{Wrapped}
+use Rattle.definition.specs.declared.Quotient.{Quotient}
+use Rattle.definition.specs.declared.Quotient.the-variants.{Rounded, NoQuotient}
+use Rattle.definition.specs.declared.Error.{Error}
+use Rattle.definition.specs.declared.Error.the-variants.{DivByZero, InvalidInstruction, Trap, InvalidMemoryAccess, CellError, Extract, Reset}
+use Rattle.definition.specs.Constants.{ZERO, NEGATIVE, OVERFLOW, INTERRUPT-PC-SAVE, INTERRUPT-SR-SAVE}
+use Rattle.definition.specs.Word.{eqZ, wrapped, quotient, isShift, shlW, shrW, andW, orW, xorW, notW, bit}
+use Rattle.definition.specs.Memory.{word, extractWord, extractAddress, asAddress}
+use Rattle.definition.specs.Registers.{Reg, getReg, putReg, Put, assigned, refused, putFlag, with-pc, with-sr}
+use Rattle.definition.specs.Arguments.{Operand, none, imm, reg, dir, ind, idx, resolve, extractCell, operandWord}
+use Rattle.definition.specs.Computer.{Core, Exec, Res, ok, err, andThen, _>>=_, _>>_, return, raise, branch, ask, change, orWord, orAddress, orCell, assign, read, write, checkPrivileged, push, pop}
+use Rattle.definition.specs.Encoding as E
+use Rattle.definition.specs.Encoding.{Op, Instruction}
+
+-- An operand's cell, word or address, and the word of a register: "any other operand, register or jump target that cannot be taken is
+-- stop 4".
+abbrev pub cellOf : Operand → Exec Cell
+cellOf x = λ c. orCell (extractCell x (c .cells) (c .regs)) Extract c
+
+abbrev pub wordOf : Operand → Exec ℤ
+wordOf x = λ c. orWord (operandWord x (c .cells) (c .regs)) Extract c
+
+abbrev pub targetOf : Operand → Exec ℕ
+targetOf x = λ c. orAddress (asAddress (operandWord x (c .cells) (c .regs))) Extract c
+
+abbrev pub registerWord : Reg → Exec ℤ
+registerWord r = λ c. orWord (extractWord (getReg r (c .regs))) Extract c
+
+-- The address that an operand names: "Stop 3 is a word or address that rti or rtn cannot take, or that st, fas, in, out or swap's write
+-- cannot take for the address alone".
+abbrev pub placeOf : Operand → Exec ℕ
+placeOf x = λ c. orAddress (resolve x (c .regs)) CellError c
+
+abbrev pub setRegister : Reg → Cell → Exec (Unit {0})
+setRegister r v = assign (putReg r v)
+
+-- "The register is written before the flags, so flags fall over a result put into sr."
+unfoldable pub andFlags : (Registers → Registers) → Put → Put
+andFlags f (assigned s) = assigned (f s)
+andFlags f (refused e) = refused e
+
+-- Z and N of a result
+abbrev pub signFlags : ℤ → Registers → Registers
+signFlags w s = putFlag NEGATIVE (ltZ w (pos 0)) (putFlag ZERO (eqZ w (pos 0)) s)
+
+-- "and, or, xor, not, div, shl and shr set Z and N and leave V."
+unfoldable pub putResult : Reg → ℤ → Registers → Put
+putResult r w s = andFlags (signFlags w) (putReg r (word w) s)
+
+-- "add, sub, mul and neg wrap at 64 bits and set V, Z, N."
+unfoldable pub putWrapped : Reg → Wrapped → Registers → Put
+putWrapped r x s = andFlags (λ t. signFlags (x .value) (putFlag OVERFLOW (x .overflow) t)) (putReg r (word (x .value)) s)
+
+-- "cmp sets Z if the words are equal and N if operand < register."
+unfoldable pub putCompared : ℤ → ℤ → Registers → Put
+putCompared v w s = assigned (putFlag NEGATIVE (ltZ v w) (putFlag ZERO (eqZ v w) s))
+
+-- "Operand 0, or smallest word / -1, raises code 1."
+unfoldable pub putQuotient : Reg → Quotient → Registers → Put
+putQuotient r (Rounded q) s = putResult r q s
+putQuotient r NoQuotient s = refused DivByZero
+
+-- "Shift amounts are 0 to 63; others raise code 2."
+unfoldable pub putShifted : (ℤ → ℕ → ℤ) → Reg → ℤ → ℤ → Registers → Put
+putShifted f r v w s = cond (isShift v) (putResult r (f w (natAbs v)) s) (refused InvalidInstruction)
+
+-- An instruction of two words: the operand's, then the register's.
+unfoldable pub words : Operand → Reg → (ℤ → ℤ → Registers → Put) → Exec (Unit {0})
+words x r k = do
+  v ← wordOf x
+  w ← registerWord r
+  assign (k v w)
+
+unfoldable pub neg : Reg → Exec (Unit {0})
+neg r = do
+  w ← registerWord r
+  assign (putWrapped r (wrapped (negℤ w)))
+
+unfoldable pub notOp : Reg → Exec (Unit {0})
+notOp r = do
+  w ← registerWord r
+  assign (putResult r (notW w))
+
+unfoldable pub jump : Operand → Exec (Unit {0})
+jump x = do
+  n ← targetOf x
+  change (with-pc n)
+
+-- "A conditional jump not taken never reads its operand." The test is of Z and N.
+unfoldable pub jumpIf : (Bool → Bool → Bool) → Operand → Exec (Unit {0})
+jumpIf test x = λ c. branch (test (bit ZERO (c .regs .sr)) (bit NEGATIVE (c .regs .sr))) (jump x) (return tt) c
+
+-- "call pushes pc before it reads its operand."
+unfoldable pub call : Operand → Exec (Unit {0})
+call x = do
+  pc ← ask (λ s. s .pc)
+  push (word (pos pc))
+  jump x
+
+-- "pop and rtn [...] then move sp, and only then test the value or set the register."
+unfoldable pub rtn : Exec (Unit {0})
+rtn = do
+  v ← pop
+  n ← λ c. orAddress (extractAddress v) CellError c
+  change (with-pc n)
+
+unfoldable pub popOp : Reg → Exec (Unit {0})
+popOp r = do
+  v ← pop
+  setRegister r v
+
+unfoldable pub pushOp : Operand → Exec (Unit {0})
+pushOp x = do
+  v ← cellOf x
+  push v
+
+-- "ld, push, pop, swap and fas carry a cell of any kind"
+unfoldable pub ld : Operand → Reg → Exec (Unit {0})
+ld x r = do
+  v ← cellOf x
+  setRegister r v
+
+-- "st takes a word, so empty becomes word 0 and an instruction stops."
+unfoldable pub st : Reg → Operand → Exec (Unit {0})
+st r y = do
+  w ← registerWord r
+  n ← placeOf y
+  write n (word w)
+
+-- "fas writes word 1 before the register is set, so a refused register leaves the cell changed."
+unfoldable pub fas : Operand → Reg → Exec (Unit {0})
+fas x r = do
+  n ← placeOf x
+  v ← read n InvalidMemoryAccess
+  write n (word (pos 1))
+  setRegister r v
+
+-- The second half of swap: the register's old cell goes to the operand, whose address is taken from the new registers.
+unfoldable pub swapBack : Operand → Cell → Exec (Unit {0})
+swapBack none v = raise CellError
+swapBack (imm w) v = raise CellError
+swapBack (reg r) v = setRegister r v
+swapBack (dir w) v = do
+  n ← placeOf (dir w)
+  write n v
+swapBack (ind r) v = do
+  n ← placeOf (ind r)
+  write n v
+swapBack (idx r k) v = do
+  n ← placeOf (idx r k)
+  write n v
+
+-- "swap writes its register first and resolves the memory address from the new registers."
+unfoldable pub swap : Operand → Reg → Exec (Unit {0})
+swap x r = do
+  v ← cellOf x
+  old ← ask (getReg r)
+  setRegister r v
+  swapBack x old
+
+-- "rti sets pc before it reads cell 101."
+unfoldable pub rti : Exec (Unit {0})
+rti = do
+  checkPrivileged
+  v ← read INTERRUPT-PC-SAVE InvalidMemoryAccess
+  n ← λ c. orAddress (extractAddress v) CellError c
+  change (with-pc n)
+  u ← read INTERRUPT-SR-SAVE InvalidMemoryAccess
+  w ← λ c. orWord (extractWord u) CellError c
+  change (with-sr w)
+
+-- "reset leaves pc on itself": one less than after the fetch.
+unfoldable pub reset : Exec (Unit {0})
+reset = do
+  change (λ s. with-pc (s .pc - 1) s)
+  raise Reset
+
+-- What an instruction asks of the console: nothing, a port read into a register, or a word written to a port.
+pub data Request : Type 0 where
+  nothing : Request
+  reads : ℕ → Reg → Request
+  writes : ℕ → ℤ → Request
+
+unfoldable pub quiet : Exec (Unit {0}) → Exec Request
+quiet m = do
+  m
+  return nothing
+
+-- "in, out and rti check S first"
+unfoldable pub inOp : Operand → Reg → Exec Request
+inOp x r = do
+  checkPrivileged
+  port ← placeOf x
+  return (reads port r)
+
+unfoldable pub outOp : Operand → Operand → Exec Request
+outOp x y = do
+  checkPrivileged
+  w ← wordOf x
+  port ← placeOf y
+  return (writes port w)
+
+-- Instruction::execute
+unfoldable pub execute : Op → Operand → Operand → Reg → Reg → Exec Request
+execute E.ADD x y r₁ r₂ = quiet (words x r₂ (λ v w. putWrapped r₂ (wrapped (v +ℤ w))))
+execute E.AND x y r₁ r₂ = quiet (words x r₂ (λ v w. putResult r₂ (andW v w)))
+execute E.CALL x y r₁ r₂ = quiet (call x)
+execute E.CMP x y r₁ r₂ = quiet (words x r₂ putCompared)
+execute E.DIV x y r₁ r₂ = quiet (words x r₂ (λ v w. putQuotient r₂ (quotient w v)))
+execute E.FAS x y r₁ r₂ = quiet (fas x r₂)
+execute E.IN x y r₁ r₂ = inOp x r₂
+execute E.JMP x y r₁ r₂ = quiet (jump x)
+execute E.JEQ x y r₁ r₂ = quiet (jumpIf (λ z n. z) x)
+execute E.JNE x y r₁ r₂ = quiet (jumpIf (λ z n. not z) x)
+execute E.JLE x y r₁ r₂ = quiet (jumpIf (λ z n. z || n) x)
+execute E.JLT x y r₁ r₂ = quiet (jumpIf (λ z n. not z && n) x)
+execute E.JGE x y r₁ r₂ = quiet (jumpIf (λ z n. z || not n) x)
+execute E.JGT x y r₁ r₂ = quiet (jumpIf (λ z n. not z && not n) x)
+execute E.LD x y r₁ r₂ = quiet (ld x r₂)
+execute E.MUL x y r₁ r₂ = quiet (words x r₂ (λ v w. putWrapped r₂ (wrapped (v *ℤ w))))
+execute E.NEG x y r₁ r₂ = quiet (neg r₁)
+execute E.NOP x y r₁ r₂ = quiet (return tt)
+execute E.NOT x y r₁ r₂ = quiet (notOp r₁)
+execute E.OR x y r₁ r₂ = quiet (words x r₂ (λ v w. putResult r₂ (orW v w)))
+execute E.OUT x y r₁ r₂ = outOp x y
+execute E.POP x y r₁ r₂ = quiet (popOp r₁)
+execute E.PUSH x y r₁ r₂ = quiet (pushOp x)
+execute E.RESET x y r₁ r₂ = quiet reset
+execute E.RTI x y r₁ r₂ = quiet rti
+execute E.RTN x y r₁ r₂ = quiet rtn
+execute E.SHL x y r₁ r₂ = quiet (words x r₂ (putShifted shlW r₂))
+execute E.SHR x y r₁ r₂ = quiet (words x r₂ (putShifted shrW r₂))
+execute E.ST x y r₁ r₂ = quiet (st r₁ y)
+execute E.SUB x y r₁ r₂ = quiet (words x r₂ (λ v w. putWrapped r₂ (wrapped (w -ℤ v))))
+execute E.SWAP x y r₁ r₂ = quiet (swap x r₂)
+execute E.TRAP x y r₁ r₂ = quiet (raise Trap)
+execute E.XOR x y r₁ r₂ = quiet (words x r₂ (λ v w. putResult r₂ (xorW v w)))

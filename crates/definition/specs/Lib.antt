@@ -1,0 +1,15 @@
+pub mod Constants
+pub mod Word
+pub mod Exception
+pub mod Memory
+pub mod Registers
+pub mod Arguments
+pub mod Encoding
+pub mod Io
+pub mod Computer
+pub mod Instructions
+pub mod Runtime
+pub mod Calls
+pub mod Course
+pub mod UserMode
+pub mod Accepted

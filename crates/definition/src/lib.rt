@@ -1,0 +1,109 @@
+// The types that the definition and the code share, declared once. No function stands here.
+
+// Three numbers (document 01, "Cells and row"): empty is 0,0,0, word w is 1,w,0, an instruction has a tag of 2 or more.
+pub struct Cell {
+    pub tag: i64,
+    pub first: i64,
+    pub second: i64,
+}
+
+// The five registers, as in registers.rs.
+pub struct Registers {
+    pub a: Cell,
+    pub b: Cell,
+    pub pc: u32,
+    pub sp: u32,
+    pub sr: i64,
+}
+
+// The console's three marks (document 01's word): in io.rs irq_on_ready, interrupt_flag and pending_irq.
+pub struct Marks {
+    pub enable: bool,
+    pub flag: bool,
+    pub pending: bool,
+}
+
+// The word that a cell gives, if it does.
+pub enum Word {
+    Is(i64),
+    NotWord,
+}
+
+// The address that a word is, if it is one.
+pub enum Address {
+    At(u32),
+    NotAddress,
+}
+
+// The cell at an address, if the address is inside the cells.
+pub enum Found {
+    Here(Cell),
+    Outside,
+}
+
+// A result wrapped at 64 bits, and whether it had to be.
+pub struct Wrapped {
+    pub value: i64,
+    pub overflow: bool,
+}
+
+// A quotient, if there is one.
+pub enum Quotient {
+    Rounded(i64),
+    NoQuotient,
+}
+
+// What ends an instruction early: `ProcessorError` of mod.rs, its exceptions and its registers spelled out.
+pub enum Error {
+    DivByZero,
+    InvalidInstruction,
+    PrivilegedInstruction,
+    Trap,
+    InvalidMemoryAccess,
+    CellError,
+    Extract,
+    InvalidPc,
+    InvalidSp,
+    InvalidSr,
+    Reset,
+}
+
+// The answers of the eight calls. A refusal of 0 says that the call was done; the other fields are 0 where it was refused.
+#[repr(C)]
+pub struct Done {
+    pub refusal: u64,
+    pub place: u64,
+}
+
+#[repr(C)]
+pub struct Ran {
+    pub refusal: u64,
+    pub place: u64,
+    pub stop: u64,
+    pub detail: u64,
+    pub steps: u64,
+}
+
+#[repr(C)]
+pub struct Drained {
+    pub refusal: u64,
+    pub place: u64,
+    pub count: u64,
+}
+
+#[repr(C)]
+pub struct CellRead {
+    pub refusal: u64,
+    pub place: u64,
+    pub tag: i64,
+    pub first: i64,
+    pub second: i64,
+}
+
+#[repr(C)]
+pub struct Raised {
+    pub refusal: u64,
+    pub place: u64,
+    pub stop: u64,
+    pub detail: u64,
+}
