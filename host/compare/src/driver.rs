@@ -1,0 +1,86 @@
+//! The judge with one case after another put on it; only the cells that were used are emptied between them.
+
+use judge::{Judge, Step};
+use list::{Answer, CELLS, Call, Case};
+
+pub struct Driver {
+    pub judge: Judge,
+    /// Addresses that may hold something: the case's cells and those written since.
+    used: Vec<usize>,
+}
+
+impl Default for Driver {
+    fn default() -> Self {
+        Self { judge: Judge::empty(), used: Vec::new() }
+    }
+}
+
+impl Driver {
+    /// Empties what the last case used and puts this one in its place; the addresses emptied.
+    pub fn start(&mut self, case: &Case) -> Vec<usize> {
+        let emptied = std::mem::take(&mut self.used);
+        for address in &emptied {
+            self.judge.put_cell(*address, [0, 0, 0]);
+        }
+        for (address, cell) in &case.cells {
+            self.judge.put_cell(*address, *cell);
+            self.used.push(*address);
+        }
+        self.judge.put_rest(&case.queue, &case.output, &case.row);
+        emptied
+    }
+
+    pub fn step(&mut self) -> Step {
+        let step = self.judge.step();
+        self.used.extend_from_slice(self.judge.changed());
+        step
+    }
+
+    /// The judge's answer to a call, and its drain buffer.
+    pub fn call(&mut self, call: &Call) -> (Answer, Vec<u8>) {
+        let answered = judged(&mut self.judge, call);
+        self.used.extend_from_slice(self.judge.changed());
+        answered
+    }
+}
+
+/// The instruction at pc, if there is one.
+pub fn fetched(judge: &Judge) -> Option<[i64; 3]> {
+    let pc = usize::try_from(judge.row()[6]).ok().filter(|pc| *pc < CELLS)?;
+    let cells = judge.cells();
+    (cells[3 * pc] >= 2).then(|| [cells[3 * pc], cells[3 * pc + 1], cells[3 * pc + 2]])
+}
+
+fn judged(judge: &mut Judge, call: &Call) -> (Answer, Vec<u8>) {
+    let mut buffer = Vec::new();
+    let answer = match call {
+        Call::Run(budget) => {
+            let ran = judge.run(*budget);
+            Answer { stop: ran.stop, detail: ran.detail, count: ran.steps, refusal: 0 }
+        }
+        Call::Deliver(bytes) => Answer::refused(judge.deliver(bytes)),
+        Call::Drain(length) => {
+            buffer = vec![0; *length];
+            drained(judge, &mut buffer)
+        }
+        Call::Raise(code) => match judge.raise(*code) {
+            Some(raised) => Answer { stop: raised.stop, detail: raised.detail, ..Answer::DONE },
+            None => Answer::refused(11),
+        },
+        Call::SetRegister(reg, word) => {
+            let taken = judge.set_register(*reg, *word);
+            Answer::refused(if taken { 0 } else { 10 })
+        }
+    };
+    (answer, buffer)
+}
+
+/// A buffer that is too short is refused before anything is drained.
+fn drained(judge: &mut Judge, buffer: &mut [u8]) -> Answer {
+    if (buffer.len() as i64) < judge.row()[15] {
+        return Answer::refused(7);
+    }
+    let bytes = judge.drain();
+    buffer[..bytes.len()].copy_from_slice(&bytes);
+    Answer { count: bytes.len() as u64, ..Answer::DONE }
+}

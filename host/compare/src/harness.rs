@@ -1,0 +1,144 @@
+//! The judge and another machine, side by side: each call is made on both and everything lent is compared.
+//!
+//! A run is taken step by step, the other machine on a budget of 1, and then once more by the other machine on
+//! the whole budget. The judge's cells are compared as the numbers that it keeps; nothing is converted.
+
+use judge::{Judge, Step};
+use list::{Answer, CELLS, Call, Case, Lent, Machine};
+
+use crate::coverage::{Coverage, outcome};
+use crate::driver::{Driver, fetched};
+use crate::invariants::{self, Before};
+
+/// The judge's numbers are compared with the original in full after so many steps, and after each longer case.
+const VERIFY_EVERY: u64 = 256;
+
+pub struct Harness<'m> {
+    driver: Driver,
+    other: &'m mut dyn Machine,
+    lent: Lent,
+    pub coverage: Coverage,
+    pub steps: u64,
+    pub calls: u64,
+}
+
+impl<'m> Harness<'m> {
+    pub fn new(other: &'m mut dyn Machine) -> Self {
+        Self {
+            driver: Driver::default(),
+            other,
+            lent: Lent::zero(CELLS, 1, 0),
+            coverage: Coverage::default(),
+            steps: 0,
+            calls: 0,
+        }
+    }
+
+    /// Makes the case's calls; the answers, or what differed first.
+    pub fn check(&mut self, case: &Case) -> Result<Vec<Answer>, String> {
+        self.start(case);
+        self.driver.judge.verify_row()?;
+        let answers: Result<Vec<_>, _> = case.calls.iter().map(|call| self.call(call)).collect();
+        if case.calls != [Call::Run(1)] {
+            self.driver.judge.verify()?;
+        }
+        answers
+    }
+
+    pub fn lent(&self) -> &Lent {
+        &self.lent
+    }
+
+    fn start(&mut self, case: &Case) {
+        for address in self.driver.start(case) {
+            self.lent.put_cell(address, [0, 0, 0]);
+        }
+        for (address, cell) in &case.cells {
+            self.lent.put_cell(*address, *cell);
+        }
+        self.lent.queue.clone_from(&case.queue);
+        self.lent.output.clone_from(&case.output);
+        self.lent.row = case.row;
+    }
+
+    fn call(&mut self, call: &Call) -> Result<Answer, String> {
+        self.calls += 1;
+        if let Call::Run(budget) = call {
+            return self.run(*budget);
+        }
+        let (answer, buffer) = call.make(self.other, &mut self.lent);
+        let (due, due_buffer) = self.driver.call(call);
+        if answer != due || buffer != due_buffer {
+            return Err(format!("{call:?}: answered {answer:?}, the judge {due:?}"));
+        }
+        self.compare()?;
+        Ok(due)
+    }
+
+    fn run(&mut self, budget: u32) -> Result<Answer, String> {
+        let mut whole = (budget != 1).then(|| self.lent.clone());
+        let mut answer = Answer::DONE;
+        while answer.count < u64::from(budget) {
+            let step = self.step()?;
+            if !step.completed {
+                (answer.stop, answer.detail) = (step.stop, step.detail);
+                break;
+            }
+            answer.count += 1;
+        }
+        if let Some(whole) = &mut whole {
+            let at_once = self.other.run(whole, budget);
+            if at_once != answer || *whole != self.lent {
+                return Err(format!("on the whole budget {budget}: {at_once:?}, by steps {answer:?}"));
+            }
+        }
+        Ok(answer)
+    }
+
+    fn step(&mut self) -> Result<Step, String> {
+        let before = self.before();
+        let step = self.driver.step();
+        self.steps += 1;
+        let answer = self.other.run(&mut self.lent, 1);
+        let due = Answer { stop: step.stop, detail: step.detail, count: step.completed.into(), refusal: 0 };
+        if answer != due {
+            return Err(format!("answered {answer:?}, the judge {due:?}"));
+        }
+        self.compare()?;
+        let judge = &self.driver.judge;
+        invariants::check(&before, &step, judge.row(), judge.cells(), judge.changed().len())?;
+        self.coverage.count(before.fetched, outcome(&step))?;
+        if self.steps.is_multiple_of(VERIFY_EVERY) {
+            self.driver.judge.verify()?;
+        }
+        Ok(step)
+    }
+
+    fn before(&self) -> Before {
+        Before { row: *self.driver.judge.row(), fetched: fetched(&self.driver.judge) }
+    }
+
+    fn compare(&self) -> Result<(), String> {
+        let (judge, lent) = (&self.driver.judge, &self.lent);
+        if *judge.row() != lent.row {
+            return Err(format!("row {:?}, the judge {:?}", lent.row, judge.row()));
+        }
+        if judge.cells() != lent.cells {
+            return Err(first_cell(judge, lent));
+        }
+        if judge.queue() != lent.queue {
+            return Err("queue bytes differ".into());
+        }
+        if judge.output() != lent.output {
+            return Err("output bytes differ".into());
+        }
+        Ok(())
+    }
+}
+
+fn first_cell(judge: &Judge, lent: &Lent) -> String {
+    let place = judge.cells().iter().zip(&lent.cells).position(|(x, y)| x != y).unwrap_or(0);
+    let address = place / 3;
+    let due = &judge.cells()[3 * address..3 * address + 3];
+    format!("cell {address} is {:?}, the judge's {due:?}", lent.cell(address))
+}

@@ -1,0 +1,18 @@
+//! Machines compared with the judge after every step: generators, coverage, invariants, and the recorded list.
+
+pub mod coverage;
+pub mod directed;
+pub mod driver;
+pub mod edges;
+pub mod forms;
+pub mod harness;
+pub mod invariants;
+pub mod modes;
+pub mod pairs;
+pub mod programs;
+pub mod record;
+pub mod rng;
+pub mod runner;
+pub mod single;
+pub mod tags;
+pub mod words;

@@ -1,0 +1,68 @@
+//! Every generator in turn on one harness, and what it came to.
+
+use list::Case;
+
+use crate::harness::Harness;
+use crate::rng::Rng;
+use crate::{directed, forms, pairs, programs, single, tags, words};
+
+/// How much of each generator is run.
+pub struct Size {
+    pub singles: usize,
+    pub programs: usize,
+    pub pairs: usize,
+}
+
+/// About two million steps; a quarter of a minute on the plain interpreter.
+pub const CHECK: Size = Size { singles: 800_000, programs: 1_700, pairs: 4_000 };
+
+/// Runs every mode; lines that say what was compared, or the first difference.
+pub fn all(harness: &mut Harness, size: &Size, seed: u64) -> Result<Vec<String>, String> {
+    let tags = tags::check()?;
+    let directed = directed::check(harness)?;
+    singles(harness, size.singles, seed)?;
+    let after_singles = harness.steps;
+    words::each(|case| checked(harness, case))?;
+    let after_words = harness.steps;
+    programs(harness, size.programs, seed)?;
+    let user = pairs::check(&mut Rng::new(seed + 2), size.pairs, 300)?;
+    let (pairs, missing) = harness.coverage.missing(1);
+    if !missing.is_empty() {
+        return Err(format!("{} of {pairs} pairs not reached: {}", missing.len(), missing.join(", ")));
+    }
+    Ok(vec![
+        format!("{tags} cells: sound, encoding and cost as the original's types have them"),
+        format!("{directed} directed cases as written out by hand"),
+        format!(
+            "{} steps and {} calls compared: single {after_singles}, words {}, programs {}",
+            harness.steps,
+            harness.calls,
+            after_words - after_singles,
+            harness.steps - after_words
+        ),
+        format!("{user} steps in user mode by two machines with different consoles, alike"),
+        format!("{pairs} of {pairs} (form, outcome) pairs reached; {}", harness.coverage.summary()),
+    ])
+}
+
+fn singles(harness: &mut Harness, count: usize, seed: u64) -> Result<(), String> {
+    let (mut rng, forms) = (Rng::new(seed), forms::all());
+    for turn in 0..count {
+        checked(harness, &single::draw(&mut rng, &forms, turn))?;
+    }
+    Ok(())
+}
+
+fn programs(harness: &mut Harness, count: usize, seed: u64) -> Result<(), String> {
+    let mut rng = Rng::new(seed + 1);
+    for _ in 0..count {
+        checked(harness, &programs::draw(&mut rng))?;
+    }
+    Ok(())
+}
+
+/// A difference is told with the case it is found in, in the recorded list's form.
+fn checked(harness: &mut Harness, case: &Case) -> Result<(), String> {
+    let tell = |why| format!("{why}\n{}{:?}", list::case_lines(1, case), case.calls);
+    harness.check(case).map(|_| ()).map_err(tell)
+}

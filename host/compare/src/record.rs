@@ -1,0 +1,173 @@
+//! The recorded list: the judge's answers to a fixed choice of cases.
+
+use judge::Judge;
+use list::{Call, Case, Lent, Recorded, Writer};
+
+use crate::coverage::{Coverage, outcome};
+use crate::driver::{Driver, fetched};
+use crate::forms::*;
+use crate::rng::Rng;
+use crate::{directed, programs, runner, single, words};
+
+/// So many single steps for each (form, outcome) pair.
+const EACH_PAIR: u64 = 3;
+const MOST_DRAWS: usize = 2_000_000;
+/// Every so many of the pairs of edge words.
+const WORDS_STRIDE: usize = 331;
+const PROGRAMS: usize = 60;
+/// How many of the runner's programs end with stops 0 to 6, and after how many steps at least.
+const FOR_RUNNER: [(usize, u64); 7] = [(12, 0), (170, 20), (90, 10), (20, 5), (80, 10), (60, 10), (3, 0)];
+/// A program that is to end by itself does so within so many steps.
+const LIMIT: u32 = 5_000;
+const SEED: u64 = 33;
+
+pub struct List {
+    pub text: String,
+    pub cases: usize,
+    pub for_runner: usize,
+    pub steps: u64,
+}
+
+/// The whole list; an error where a possible pair does not stand in it.
+pub fn list() -> Result<List, String> {
+    let mut recorder = Recorder::default();
+    for directed in directed::cases() {
+        recorder.case(&directed.case)?;
+    }
+    recorder.singles()?;
+    recorder.words()?;
+    recorder.programs()?;
+    recorder.worked_runs()?;
+    recorder.for_runner()?;
+    let (pairs, missing) = recorder.coverage.missing(EACH_PAIR);
+    if !missing.is_empty() {
+        return Err(format!("{} of {pairs} pairs are not recorded: {missing:?}", missing.len()));
+    }
+    Ok(List {
+        text: recorder.writer.finish(),
+        cases: recorder.cases,
+        for_runner: recorder.runner_cases,
+        steps: recorder.steps,
+    })
+}
+
+#[derive(Default)]
+struct Recorder {
+    driver: Driver,
+    writer: Writer,
+    coverage: Coverage,
+    cases: usize,
+    runner_cases: usize,
+    steps: u64,
+}
+
+impl Recorder {
+    /// Makes the case's calls on the judge and writes them down.
+    fn case(&mut self, case: &Case) -> Result<(), String> {
+        self.driver.start(case);
+        let mut calls = Vec::new();
+        for call in &case.calls {
+            calls.push(recorded(&mut self.driver, call));
+        }
+        self.driver.judge.verify()?;
+        self.writer.case(case, &calls);
+        self.cases += 1;
+        self.runner_cases += usize::from(case.for_runner);
+        let runs = calls.iter().filter(|made| matches!(made.call, Call::Run(_)));
+        self.steps += runs.map(|made| made.answer.count).sum::<u64>();
+        Ok(())
+    }
+
+    /// Draws until each pair was met so often; only the first of each are recorded.
+    fn singles(&mut self) -> Result<(), String> {
+        let (mut rng, forms) = (Rng::new(SEED), all());
+        for turn in 0..MOST_DRAWS {
+            let case = single::draw(&mut rng, &forms, turn);
+            if case.queue.len() > 8 || case.output.len() > 8 {
+                continue;
+            }
+            self.driver.start(&case);
+            let cell = fetched(&self.driver.judge);
+            let step = self.driver.step();
+            let pair = self.coverage.count(cell, outcome(&step))?;
+            if self.coverage.reached(pair) <= EACH_PAIR {
+                self.case(&case)?;
+            }
+            if turn % 100_000 == 0 && self.coverage.missing(EACH_PAIR).1.is_empty() {
+                return Ok(());
+            }
+        }
+        Ok(())
+    }
+
+    fn words(&mut self) -> Result<(), String> {
+        let mut count = 0;
+        words::each(|case| {
+            count += 1;
+            if count % WORDS_STRIDE == 0 { self.case(case) } else { Ok(()) }
+        })
+    }
+
+    /// Programs with other calls between their runs.
+    fn programs(&mut self) -> Result<(), String> {
+        let mut rng = Rng::new(SEED + 1);
+        for _ in 0..PROGRAMS {
+            self.case(&programs::draw(&mut rng))?;
+        }
+        Ok(())
+    }
+
+    /// Programs written by hand for the runner: document 01's own, and one that fills the output record.
+    fn worked_runs(&mut self) -> Result<(), String> {
+        let mut worked = runner::start();
+        worked.put(0, [202, 5, 0]);
+        worked.put(1, [20_702, 0, 0]);
+        let mut full = runner::start();
+        full.row[8] = directed::S;
+        full.put(0, instruction(ADD, imm(3), reg(A)));
+        full.put(1, instruction(OUT, reg(A), dir(111)));
+        full.put(2, instruction(JMP, imm(0), NONE));
+        for case in [worked, full] {
+            let mut judge = Judge::empty();
+            let same = runner::same_in_the_runner(&mut judge, &case, runner::BUDGET);
+            same.ok_or("a program by hand is none for the runner")?;
+            self.case(&case)?;
+        }
+        Ok(())
+    }
+
+    /// Drawn programs for the runner, so many for each stop.
+    fn for_runner(&mut self) -> Result<(), String> {
+        let mut rng = Rng::new(SEED + 2);
+        let mut judge = Judge::empty();
+        let mut open = FOR_RUNNER;
+        for _ in 0..MOST_DRAWS {
+            if open.iter().all(|(left, _)| *left == 0) {
+                return Ok(());
+            }
+            let limit = if open[0].0 + open[6].0 > 0 { runner::BUDGET } else { LIMIT };
+            let Some((case, answer)) = runner::draw(&mut rng, &mut judge, limit) else { continue };
+            let Some((left, least)) = open.get_mut(answer.stop as usize) else { continue };
+            if *left > 0 && answer.count >= *least {
+                *left -= 1;
+                self.case(&case)?;
+            }
+        }
+        Err(format!("programs for the runner missing by stop: {open:?}"))
+    }
+}
+
+fn recorded(driver: &mut Driver, call: &Call) -> Recorded {
+    let before = lent(&driver.judge);
+    let (answer, buffer) = driver.call(call);
+    Recorded { call: call.clone(), answer, before, after: lent(&driver.judge), buffer }
+}
+
+fn lent(judge: &Judge) -> Lent {
+    Lent {
+        cells: judge.cells().to_vec(),
+        queue: judge.queue().to_vec(),
+        output: judge.output().to_vec(),
+        row: *judge.row(),
+    }
+}

@@ -1,0 +1,15 @@
+//! The Rust original as judge: its eight files compiled unchanged, behind document 01's numbers.
+//! `Judge` is what others use; the rest stands between the original's types and those numbers.
+
+mod ast;
+mod console;
+mod encoding;
+mod machine;
+mod places;
+mod row;
+
+include!(concat!(env!("OUT_DIR"), "/original.rs"));
+
+pub use encoding::{Flat, cost, is_sound, through_the_original};
+pub use machine::{Judge, Raised, Ran, Step};
+pub use row::Row;
