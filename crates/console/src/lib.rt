@@ -1,0 +1,215 @@
+// io.rs: the serial console, by value beside the lent queue and output record.
+use definition::Marks;
+ghost use mathlib.Core.Path.{_≡_};
+ghost use mathlib.Core.List.{List};
+ghost use mathlib.Core.Bool.{cond};
+ghost use Prim.Native.Nat.{ℕ, _+_, _<_, _≤_};
+ghost use lib.ListN.{length, set};
+ghost use Rattle.definition.specs.Io.{inputReady, status, readStatus, writeControl, raiseInterrupt, delivered, around, readPort, readData, writePort, outputFull, putBytes, drained};
+ghost use Rattle.console.specs.State.{consoleOf, Sends};
+
+// The console without its bytes.
+pub struct ConsoleState {
+    pub marks: Marks,
+    pub start: usize,
+    pub count: usize,
+    pub written: usize,
+}
+
+// What a port reads, and the console afterwards.
+pub struct Received {
+    pub value: u8,
+    pub k: ConsoleState,
+}
+
+// The console after a write to a port, and the byte, if one goes out.
+pub struct Sent {
+    pub k: ConsoleState,
+    pub sends: bool,
+    pub byte: u8,
+}
+
+// SerialConsole::read of port 110: "2, plus 1 if bytes are queued, plus 4 if the interrupt flag is set"
+pub fn status(ready: bool, marks: Marks) -> u8
+    ensures { λ r. ⌜ r ≡ status ready marks ⌝ }
+{
+    2 + bit(ready, 1) + bit(marks.flag, 4)
+}
+
+fn bit(on: bool, worth: u8) -> u8
+    requires { ⌜ worth < 8 ⌝ }
+    ensures { λ r. ⌜ (r ≡ cond on worth 0) × (r < 8) ⌝ }
+{
+    if on { worth } else { 0 }
+}
+
+// "the read clears the flag, not the pending mark"
+pub fn read_status(marks: Marks) -> Marks
+    ensures { λ r. ⌜ r ≡ readStatus marks ⌝ }
+{
+    Marks {
+        enable: marks.enable,
+        flag: false,
+        pending: marks.pending,
+    }
+}
+
+// "sets flag and mark"
+pub fn raise_interrupt(marks: Marks) -> Marks
+    ensures { λ r. ⌜ r ≡ raiseInterrupt marks ⌝ }
+{
+    Marks {
+        enable: marks.enable,
+        flag: true,
+        pending: true,
+    }
+}
+
+// SerialConsole::write of port 110: "the lowest bit sets or clears receive-interrupt enable; writing it as 1 with bytes queued, enabled
+// before or not, sets flag and mark."
+pub fn write_control(ready: bool, w: i64, marks: Marks) -> Marks
+    ensures { λ r. ⌜ r ≡ writeControl ready w marks ⌝ }
+{
+    let on = word::test_bit(w, 0);
+    if on & ready {
+        Marks {
+            enable: true,
+            flag: true,
+            pending: true,
+        }
+    } else {
+        Marks {
+            enable: on,
+            flag: marks.flag,
+            pending: marks.pending,
+        }
+    }
+}
+
+// SerialConsole::push_input: "Delivering one byte or more with enable set sets flag and mark; delivering none does nothing."
+pub fn delivered(n: usize, marks: Marks) -> Marks
+    ensures { λ r. ⌜ r ≡ delivered n marks ⌝ }
+{
+    if (0 < n) & marks.enable {
+        raise_interrupt(marks)
+    } else {
+        marks
+    }
+}
+
+// A place in the queue, "wrapping at the queue's end".
+pub fn around(size: usize, n: usize) -> usize
+    ensures { λ r. ⌜ r ≡ around size n ⌝ }
+{
+    if n < size { n } else { n - size }
+}
+
+// SerialConsole::read of port 111: "the oldest byte, or 0". "a read moves the start on by one, wrapping too"
+pub fn read_data(queue: &[u8], k: ConsoleState) -> Received
+    requires { ⌜ k .start < length (now queue) ⌝ }
+    ensures { λ r. ⌜ ((output : List ℕ) → (r .value, consoleOf (r .k) (now (queue .entry)) output) ≡ readData (consoleOf k (now (queue .entry)) output)) ⌝ }
+{
+    let start = k.start;
+    if 0 < k.count {
+        let mut after = k;
+        after.start = around(queue.len(), start + 1);
+        after.count = k.count - 1;
+        Received {
+            value: queue[start],
+            k: after,
+        }
+    } else {
+        Received { value: 0, k }
+    }
+}
+
+// SerialConsole::read. "Other ports read 0"
+pub fn read_port(queue: &[u8], k: ConsoleState, port: u32) -> Received
+    requires { ⌜ k .start < length (now queue) ⌝ }
+    ensures { λ r. ⌜ ((output : List ℕ) → (r .value, consoleOf (r .k) (now (queue .entry)) output) ≡ readPort port (consoleOf k (now (queue .entry)) output)) ⌝ }
+{
+    let marks = k.marks;
+    if port == 110 {
+        let mut after = k;
+        after.marks = read_status(marks);
+        return Received {
+            value: status(0 < k.count, marks),
+            k: after,
+        };
+    }
+    if port == 111 {
+        return read_data(queue, k);
+    }
+    Received { value: 0, k }
+}
+
+// SerialConsole::write. "out keeps the low 8 bits on port 111", "Other ports [...] swallow writes."
+pub fn write_port(k: ConsoleState, port: u32, w: i64) -> Sent
+    requires { ⌜ k .written ≤ 65536 ⌝ }
+    ensures { λ r. ⌜ Sends k port w r ⌝ }
+{
+    if port == 110 {
+        let mut after = k;
+        after.marks = write_control(0 < k.count, w, k.marks);
+        return Sent {
+            k: after,
+            sends: false,
+            byte: 0,
+        };
+    }
+    if port == 111 {
+        let mut after = k;
+        after.written = k.written + 1;
+        return Sent {
+            k: after,
+            sends: true,
+            byte: word::low_byte(w),
+        };
+    }
+    Sent {
+        k,
+        sends: false,
+        byte: 0,
+    }
+}
+
+// "the step would write a byte past the output record", of this size
+pub fn output_full(k: ConsoleState, port: u32, size: usize) -> bool
+    ensures { λ r. ⌜ ((queue output : List ℕ) → length output ≡ size → r ≡ outputFull port (consoleOf k queue output)) ⌝ }
+{
+    (port == 111) & (size <= k.written)
+}
+
+// The byte that a write sends, behind those already written.
+pub fn put_byte(output: &mut [u8], at: usize, byte: u8)
+    requires { ⌜ at < length (now output) ⌝ }
+    ensures { λ r. ⌜ now (output .exit) ≡ set (now (output .entry)) at byte ⌝ }
+{
+    output[at] = byte;
+}
+
+// Delivered bytes, one after another from this place of the queue on.
+pub fn put_bytes(queue: &mut [u8], at: usize, bytes: &[u8])
+    requires { ⌜ at < length (now queue) ⌝ }
+    ensures { λ r. ⌜ now (queue .exit) ≡ putBytes at (now (bytes .entry)) (now (queue .entry)) ⌝ }
+{
+    let mut p = at;
+    let mut i: usize = 0;
+    while i < bytes.len() {
+        queue[p] = bytes[i];
+        p = around(queue.len(), p + 1);
+        i += 1;
+    }
+}
+
+// "Drain copies the counted bytes to the front of its buffer, leaves the rest of it"
+pub fn drain_to(buffer: &mut [u8], output: &[u8], n: usize)
+    requires { ⌜ (n ≤ length (now output)) × (n ≤ length (now buffer)) ⌝ }
+    ensures { λ r. ⌜ now (buffer .exit) ≡ drained n (now (output .entry)) (now (buffer .entry)) ⌝ }
+{
+    let mut i: usize = 0;
+    while i < n {
+        buffer[i] = output[i];
+        i += 1;
+    }
+}

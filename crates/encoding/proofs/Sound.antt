@@ -1,0 +1,136 @@
+-- A tag taken apart by the code's divisions, soundness by the code's tests, and the cells one after another.
+use mathlib.Core.Path.{_≡_, refl, sym, _∙_, ap}
+use mathlib.Core.Bool.{Bool, true, false, cond, _&&_, _||_, true≢false}
+use mathlib.Core.List.{List, [], _∷_}
+use Prim.Native.Nat.{ℕ, zero, suc, _+_, _*_, _-_, _/_, _%_, _<_, _≤_}
+use native.Mathlib.Omega.{arith}
+use lib.IntN.{ℤ, pos, negsuc, natAbs}
+use lib.Signed.{ltZ, leZ, nonNeg}
+use lib.Dec.{T}
+use lib.ListN.{length, getD, drop}
+use lib.Seq.{drop-cons}
+use mir.Syntax.{w32}
+use mir.Val.{Fits}
+use borrow.Author.Tests.{ltb-true, ltb-false, le-ltb}
+use Rattle.definition.specs.declared.Address.the-variants.{At, NotAddress}
+use Rattle.definition.specs.Word.{eqZ, addressOf}
+use Rattle.definition.specs.Memory.{cellAt}
+use Rattle.definition.specs.Encoding.{legal, isAddress, registerFits, numberFits, soundInstruction, soundAt, sound}
+use Rattle.definition.specs.Calls.{lowestDamaged}
+use Rattle.word.proofs.Laws.{address-by as word-address-by}
+
+-- ---- a tag less 2: t / 25 is the table's place, t % 25 holds the registers
+
+pub op-part : (t : ℕ) → t / 25 / 36 ≡ t / 900
+op-part t = omega arith
+
+pub mode₁-part : (t : ℕ) → t / 25 / 6 % 6 ≡ t / 150 % 6
+mode₁-part t = omega arith
+
+pub reg₁-part : (t : ℕ) → t % 25 / 5 ≡ t / 5 % 5
+reg₁-part t = omega arith
+
+pub reg₂-part : (t : ℕ) → t % 25 % 5 ≡ t % 5
+reg₂-part t = omega arith
+
+-- ---- soundness
+
+pub address-by : (w : ℤ) → (leZ (pos 0) w && leZ w (pos 4294967295)) ≡ isAddress (addressOf w)
+unfolding isAddress
+address-by w = by (leZ (pos 0) w && leZ w (pos 4294967295)) ∙ ap isAddress (word-address-by w refl)
+  where
+    by : (b : Bool) → b ≡ isAddress (cond b (At (natAbs w)) NotAddress)
+    by true = refl
+    by false = refl
+
+pub plain : (t f s : ℤ) → ltZ t (pos 2) ≡ true → ((eqZ t (pos 1) || (eqZ t (pos 0) && eqZ f (pos 0))) && eqZ s (pos 0)) ≡ soundAt t f s
+unfolding soundAt
+plain (pos zero) f s h = refl
+plain (pos (suc zero)) f s h = refl
+plain (pos (suc (suc n))) f s h = let k : suc (suc n) < 2 = ltb-true (suc (suc n)) 2 h in absurd (omega arith)
+plain (negsuc n) f s h = refl
+
+pub record Code (t : ℤ) : Type 0 where
+  pub whole : T (nonNeg t) × Fits w32 (natAbs t)
+  pub least : 2 ≤ natAbs t
+  pub most : natAbs t - 2 < 29700
+
+pub code : (t : ℤ) → ltZ t (pos 2) ≡ false → ltZ t (pos 29702) ≡ true → Code t
+code (pos n) h k =
+    let a : 2 ≤ n = ltb-false n 2 h in
+    let b : n < 29702 = ltb-true n 29702 k in
+    record { whole = (tt, omega arith); least = a; most = omega arith }
+code (negsuc n) h k = absurd (true≢false h)
+
+pub code-sound : (t f s : ℤ) → ltZ t (pos 2) ≡ false → soundInstruction (natAbs t - 2) f s ≡ soundAt t f s
+unfolding soundAt
+code-sound (pos zero) f s h = absurd (true≢false h)
+code-sound (pos (suc zero)) f s h = absurd (true≢false h)
+code-sound (pos (suc (suc n))) f s h =
+    let e : suc (suc n) - 2 ≡ n = omega arith in
+    ap (λ (k : ℕ). soundInstruction k f s) e
+code-sound (negsuc n) f s h = absurd (true≢false h)
+
+far-op : (n : ℕ) (f s : ℤ) → 29700 ≤ n → soundInstruction n f s ≡ false
+unfolding soundInstruction legal
+far-op n f s h = simp (le-ltb (n / 900) 33 (omega arith))
+
+pub far : (t f s : ℤ) → ltZ t (pos 29702) ≡ false → false ≡ soundAt t f s
+unfolding soundAt
+far (pos zero) f s h = absurd (true≢false h)
+far (pos (suc zero)) f s h = absurd (true≢false h)
+far (pos (suc (suc n))) f s h =
+    let k : 29702 ≤ suc (suc n) = ltb-false (suc (suc n)) 29702 h in
+    sym (far-op n f s (omega arith))
+far (negsuc n) f s h = refl
+
+-- ---- the cells from address n on
+
+front : (n : ℕ) (l : List ℤ) → 3 * n + 2 < length l
+    → drop (3 * n) l ≡ getD l (3 * n) (pos 0) ∷ getD l (3 * n + 1) (pos 0) ∷ getD l (3 * n + 2) (pos 0) ∷ drop (3 * suc n) l
+front n l h =
+    let e₁ : suc (3 * n) ≡ 3 * n + 1 = omega arith in
+    let e₂ : suc (3 * n + 1) ≡ 3 * n + 2 = omega arith in
+    let e₃ : suc (3 * n + 2) ≡ 3 * suc n = omega arith in
+    drop-cons l (3 * n) (pos 0) (omega arith)
+    ∙ ap (λ (r : List ℤ). getD l (3 * n) (pos 0) ∷ r)
+    (ap (λ (i : ℕ). drop i l) e₁ ∙ drop-cons l (3 * n + 1) (pos 0) (omega arith)
+    ∙ ap (λ (r : List ℤ). getD l (3 * n + 1) (pos 0) ∷ r)
+    (ap (λ (i : ℕ). drop i l) e₂ ∙ drop-cons l (3 * n + 2) (pos 0) (omega arith)
+    ∙ ap (λ (i : ℕ). getD l (3 * n + 2) (pos 0) ∷ drop i l) e₃))
+
+pub damaged-later : (n : ℕ) (l : List ℤ) → 3 * n + 2 < length l → sound (cellAt l n) ≡ true
+    → lowestDamaged (suc n) (drop (3 * suc n) l) ≡ lowestDamaged n (drop (3 * n) l)
+unfolding lowestDamaged cellAt
+damaged-later n l h e = rw (front n l h, e)
+
+pub damaged-here : (n : ℕ) (l : List ℤ) → 3 * n + 2 < length l → sound (cellAt l n) ≡ false
+    → n ≡ lowestDamaged n (drop (3 * n) l)
+unfolding lowestDamaged cellAt
+damaged-here n l h e = rw (front n l h, e)
+
+pub damaged-none : (n : ℕ) (l : List ℤ) → length l < 3 → n ≡ lowestDamaged n l
+unfolding lowestDamaged
+damaged-none n [] h = refl
+damaged-none n (t ∷ []) h = refl
+damaged-none n (t ∷ f ∷ []) h = refl
+damaged-none n (t ∷ f ∷ s ∷ l) h = absurd (omega arith)
+
+-- ---- an operand's number: 0 or any number, else an address
+
+pub fits-at-once : (a b c d : Bool) → (a || (b || c)) ≡ true → true ≡ (a || (b || (c || d)))
+fits-at-once true b c d h = refl
+fits-at-once false true c d h = refl
+fits-at-once false false true d h = refl
+fits-at-once false false false d h = absurd (true≢false (sym h))
+
+pub fits-as-address : (a b c d : Bool) → (a || (b || c)) ≡ false → d ≡ (a || (b || (c || d)))
+fits-as-address true b c d h = absurd (true≢false h)
+fits-as-address false true c d h = absurd (true≢false h)
+fits-as-address false false true d h = absurd (true≢false h)
+fits-as-address false false false d h = refl
+
+-- Soundness of an instruction, with its tag taken apart as the code does it.
+pub sound-by-parts : (t : ℕ) (f s : ℤ) → soundInstruction t f s ≡ (legal (t / 25 / 36) (t / 25 / 6 % 6) (t / 25 % 6) && ((registerFits (t / 25 / 6 % 6) (t % 25 / 5) && registerFits (t / 25 % 6) (t % 25 % 5)) && (numberFits (t / 25 / 6 % 6) f && numberFits (t / 25 % 6) s)))
+unfolding soundInstruction
+sound-by-parts t f s = rw (op-part t, mode₁-part t, reg₁-part t, reg₂-part t)

@@ -1,0 +1,360 @@
+-- The instructions, by what their operands gave: hypotheses on the pure functions, conclusion one step.
+use mathlib.Core.Path.{_≡_, refl, sym, ap, _∙_}
+use mathlib.Core.Bool.{Bool, true, false, _&&_, _||_, true≢false}
+use mathlib.Core.List.{List}
+use Prim.Native.Nat.{ℕ, zero, suc, _+_, _-_, _<_, _≤_}
+use native.Mathlib.Numerals.{add-one}
+use native.Mathlib.Omega.{arith}
+use lib.IntN.{ℤ, pos}
+use lib.Dec.{leb, eqb}
+use lib.ListN.{List·getD-eq-default}
+use borrow.Author.Tests.{ltb-true, leb-true, lt-ltb, le-ltb, eqb-true, ne-eqb}
+use Rattle.definition.specs.declared.Cell.{Cell}
+use Rattle.definition.specs.declared.Registers.{Registers}
+use Rattle.definition.specs.declared.Word.{Word}
+use Rattle.definition.specs.declared.Word.the-variants.{Is, NotWord}
+use Rattle.definition.specs.declared.Address.{Address}
+use Rattle.definition.specs.declared.Address.the-variants.{At, NotAddress}
+use Rattle.definition.specs.declared.Found.the-variants.{Here, Outside}
+use Rattle.definition.specs.declared.Error.{Error}
+use Rattle.definition.specs.declared.Error.the-variants.{PrivilegedInstruction, InvalidMemoryAccess, CellError, Extract, Reset, Trap}
+use Rattle.definition.specs.Constants.{ZERO, NEGATIVE, CELLS-MOST}
+use Rattle.definition.specs.Word.{bit}
+use Rattle.definition.specs.Memory.{word, empty, cellCount, get, extractWord, extractAddress, asAddress}
+use Rattle.definition.specs.Registers as R
+use Rattle.definition.specs.Registers.{Reg, regAt, getReg, putReg, assigned, refused, supervisor, with-pc, with-sp, with-sr}
+use Rattle.definition.specs.Arguments.{Operand, operand, resolve}
+use Rattle.definition.specs.Computer.{Core, Exec, core, ok, err, andThen, branch, return, orWord, orAddress, orCell, orPut, write, push, pop, below, checkPrivileged}
+use Rattle.definition.specs.Encoding.{Op, TRAP, ops, opAt}
+use Rattle.definition.specs.Instructions.{execute, jump, jumpIf, call, rtn, popOp, pushOp, ld, st, fas, swapBack, swap, rti, reset, nothing, reads, writes, quiet, inOp, outOp}
+use Rattle.word.proofs.Laws.{ltb-elim}
+use Rattle.memory.specs.Overlay.{overlay}
+use Rattle.memory.proofs.Laws.{get-here, over-in, over-none}
+use Rattle.registers.specs.declared.Put.{Put}
+use Rattle.registers.specs.Answer.{settled, result, answer, putRes}
+use Rattle.arguments.specs.declared.Arg.{Arg}
+use Rattle.arguments.specs.By.{argOf, resolveBy, extractBy, wordBy}
+use Rattle.arguments.proofs.Laws.{resolve-by, extract-by, word-by}
+use Rattle.instructions.specs.declared.Made.{Made}
+use Rattle.instructions.specs.Jumps.{jumper, testAt}
+use Rattle.instructions.specs.Plan.{planned, coreOf, made, madeRes, unwritten, writer, rtiSr}
+
+-- what the code finds for an operand
+abbrev foundAddress : Arg → Registers → Address
+foundAddress x s = resolveBy (x .mode) (getReg (regAt (x .reg)) s) (x .number)
+
+abbrev foundWord : Arg → List ℤ → Registers → Word
+foundWord x l s = wordBy (x .mode) (getReg (regAt (x .reg)) s) (x .number) l
+
+-- a quiet instruction asks for nothing
+quiet-is : (m : Exec (Unit {0})) (c c' : Core) (b : Bool) (e : Error) → result tt b e c' ≡ m c → result nothing b e c' ≡ quiet m c
+unfolding quiet andThen
+quiet-is m c c' true e h = rw (← h)
+quiet-is m c c' false e h = rw (← h)
+
+module _ (l : List ℤ) (c : Core) (m : Exec (Unit {0})) where
+  pub quiet-put : (q : Put) → putRes l q ≡ m c → answer nothing l q ≡ quiet m c
+  quiet-put q h = quiet-is m c (core l (q .s)) (q .ok) (q .error) h
+
+  pub quiet-made : (d : Made) → madeRes l d ≡ m c → made nothing l d ≡ quiet m c
+  quiet-made d h = quiet-is m c (coreOf l (d .p)) (d .ok) (d .error) h
+
+-- an operation's number; past the last is trap
+module _ (x y : Operand) (r t : Reg) (c : Core) where
+  pub op-is : (n k : ℕ) → n ≡ k → execute (opAt k) x y r t c ≡ execute (opAt n) x y r t c
+  op-is n k h = ap (λ (m : ℕ). execute (opAt m) x y r t c) (sym h)
+
+  pub op-trap : (n : ℕ) → (n < 33 → n ≡ 31) → err Trap c ≡ execute (opAt n) x y r t c
+  unfolding execute quiet andThen opAt
+  op-trap n h = ltb-elim n 33 (λ b k. op-is n 31 (h k)) (λ b k. ap (λ (o : Op). execute o x y r t c) (sym (List·getD-eq-default ops TRAP {n = n} k)))
+
+-- a jump by its number
+module _ (x y : Operand) (r t : Reg) (l : List ℤ) (s : Registers) where
+  pub jump-op : (o : ℕ) → jumper o ≡ true → quiet (λ c. branch (testAt o (bit ZERO (s .sr)) (bit NEGATIVE (s .sr))) (jump x) (return tt) c) (core l s) ≡ execute (opAt o) x y r t (core l s)
+  unfolding execute opAt quiet andThen jumpIf branch testAt
+  jump-op o h =
+      let p = and-both (leb 7 o) (leb o 13) h in
+      let a : 7 ≤ o = leb-true 7 o (p .0) in
+      let b : o ≤ 13 = leb-true o 13 (p .1) in
+      let e : o ≡ 7 + (o - 7) = omega arith in
+      rw e (go (o - 7) (omega arith))
+    where
+      and-both : (b d : Bool) → b && d ≡ true → (b ≡ true) × (d ≡ true)
+      and-both true d h = (refl, h)
+      and-both false d h = absurd (true≢false (sym h))
+
+      go : (k : ℕ) → k ≤ 6 → quiet (λ c. branch (testAt (7 + k) (bit ZERO (s .sr)) (bit NEGATIVE (s .sr))) (jump x) (return tt) c) (core l s) ≡ execute (opAt (7 + k)) x y r t (core l s)
+      go zero h = refl
+      go (suc zero) h = refl
+      go (suc (suc zero)) h = refl
+      go (suc (suc (suc zero))) h = refl
+      go (suc (suc (suc (suc zero)))) h = refl
+      go (suc (suc (suc (suc (suc zero))))) h = refl
+      go (suc (suc (suc (suc (suc (suc zero)))))) h = refl
+      go (suc (suc (suc (suc (suc (suc (suc k))))))) h = absurd (omega arith)
+
+-- the test of a jump; past the last it is jmp's
+pub test-is : (o k : ℕ) (z n : Bool) → o ≡ k → testAt k z n ≡ testAt o z n
+test-is o k z n h = ap (λ (m : ℕ). testAt m z n) (sym h)
+
+from-8 : (o k : ℕ) → o - 7 ≡ suc k → o ≡ 8 + k
+from-8 o k e = omega arith
+
+pub test-else : (o : ℕ) (z n : Bool) → (o ≡ 8 → ⊥) → (o ≡ 9 → ⊥) → (o ≡ 10 → ⊥) → (o ≡ 11 → ⊥) → (o ≡ 12 → ⊥) → (o ≡ 13 → ⊥) → true ≡ testAt o z n
+test-else o z n h₁ h₂ h₃ h₄ h₅ h₆ = go (o - 7) refl
+  where
+    go : (k : ℕ) → o - 7 ≡ k → true ≡ testAt o z n
+    go zero e = unfold testAt in rw e
+    go (suc zero) e = absurd (h₁ (from-8 o 0 e))
+    go (suc (suc zero)) e = absurd (h₂ (from-8 o 1 e))
+    go (suc (suc (suc zero))) e = absurd (h₃ (from-8 o 2 e))
+    go (suc (suc (suc (suc zero)))) e = absurd (h₄ (from-8 o 3 e))
+    go (suc (suc (suc (suc (suc zero))))) e = absurd (h₅ (from-8 o 4 e))
+    go (suc (suc (suc (suc (suc (suc zero)))))) e = absurd (h₆ (from-8 o 5 e))
+    go (suc (suc (suc (suc (suc (suc (suc k))))))) e = unfold testAt in rw e
+
+-- one number after the other, none of which n is
+pub past : (n k : ℕ) → k ≤ n → (n ≡ k → ⊥) → suc k ≤ n
+past n k h e = omega arith
+
+pub below-33 : (n : ℕ) → 31 ≤ n → n < 33 → (n ≡ 32 → ⊥) → n ≡ 31
+below-33 n h k e = omega arith
+
+-- a number that a test refuses is none that it takes
+pub not-in : (f : ℕ → Bool) (n k : ℕ) → f n ≡ false → f k ≡ true → n ≡ k → ⊥
+not-in f n k h e x = true≢false (sym e ∙ ap f (sym x) ∙ h)
+
+-- the fifth of the operations that write
+pub writer-st : (n : ℕ) → writer n ≡ true → (n ≡ 2 → ⊥) → (n ≡ 5 → ⊥) → (n ≡ 22 → ⊥) → (n ≡ 30 → ⊥) → n ≡ 28
+writer-st n h h₂ h₅ h₂₂ h₃₀ = go (eqb n 28) refl (rw (ne-eqb n 2 h₂, ne-eqb n 5 h₅, ne-eqb n 22 h₂₂, ne-eqb n 30 h₃₀) at h)
+  where
+    go : (b : Bool) → eqb n 28 ≡ b → eqb n 28 || false ≡ true → n ≡ 28
+    go true e k = eqb-true n 28 e
+    go false e k = absurd (true≢false (sym (rw e at k)))
+
+-- sp after a read there is still a u32
+pub sp-fits : (l : List ℤ) (n : ℕ) (v : Cell) → cellCount l ≤ CELLS-MOST → get l n ≡ Here v → n < 10000
+sp-fits l n v h e = omega (arith, ltb-true n (cellCount l) (get-here l n v e))
+
+-- nothing to be written
+pub none-written : (l : List ℤ) → cellCount l ≤ CELLS-MOST → (q : Put) → madeRes l (unwritten q) ≡ putRes l q
+none-written l h q = ap (λ (m : List ℤ). putRes m q) (over-none l 4294967295 empty (omega arith))
+
+module _ (l : List ℤ) (s : Registers) where
+  -- jumps
+  module _ (x : Arg) where
+    pub jump-yes : (n : ℕ) → asAddress (foundWord x l s) ≡ At n → ok tt (core l (with-pc n s)) ≡ jump (argOf x) (core l s)
+    unfolding jump andThen orAddress
+    jump-yes n h = rw (← word-by (x .reg) (x .number) s (x .mode) l, h)
+
+    pub jump-no : asAddress (foundWord x l s) ≡ NotAddress → err Extract (core l s) ≡ jump (argOf x) (core l s)
+    unfolding jump andThen orAddress
+    jump-no h = rw (← word-by (x .reg) (x .number) s (x .mode) l, h)
+
+  pub reset-is : (n : ℕ) → n ≡ s .pc - 1 → err Reset (core l (with-pc n s)) ≡ reset (core l s)
+  unfolding reset andThen
+  reset-is n h = ap (λ (k : ℕ). err Reset (core l (with-pc k s))) h
+
+  -- cells into registers
+  module _ (x : Arg) (r : Reg) where
+    pub ld-yes : (v : Cell) → extractBy (x .mode) (getReg (regAt (x .reg)) s) (x .number) l ≡ Here v → orPut (putReg r v s) (core l s) ≡ ld (argOf x) r (core l s)
+    unfolding ld andThen orCell
+    ld-yes v h = rw (← extract-by (x .reg) (x .number) s (x .mode) l, h)
+
+    pub ld-no : extractBy (x .mode) (getReg (regAt (x .reg)) s) (x .number) l ≡ Outside → err Extract (core l s) ≡ ld (argOf x) r (core l s)
+    unfolding ld andThen orCell
+    ld-no h = rw (← extract-by (x .reg) (x .number) s (x .mode) l, h)
+
+  pub pop-yes : (r : Reg) (v : Cell) → get l (s .sp) ≡ Here v → orPut (putReg r v (with-sp (s .sp + 1) s)) (core l (with-sp (s .sp + 1) s)) ≡ popOp r (core l s)
+  unfolding popOp pop andThen orCell
+  pop-yes r v h = rw (add-one (s .sp), h)
+
+  pub pop-no : (r : Reg) → get l (s .sp) ≡ Outside → err InvalidMemoryAccess (core l s) ≡ popOp r (core l s)
+  unfolding popOp pop andThen orCell
+  pop-no r h = rw h
+
+  pub rtn-yes : (v : Cell) (n : ℕ) → get l (s .sp) ≡ Here v → extractAddress v ≡ At n → ok tt (core l (with-pc n (with-sp (s .sp + 1) s))) ≡ rtn (core l s)
+  unfolding rtn pop andThen orCell orAddress
+  rtn-yes v n h e = rw (add-one (s .sp), h, e)
+
+  pub rtn-not : (v : Cell) → get l (s .sp) ≡ Here v → extractAddress v ≡ NotAddress → err CellError (core l (with-sp (s .sp + 1) s)) ≡ rtn (core l s)
+  unfolding rtn pop andThen orCell orAddress
+  rtn-not v h e = rw (add-one (s .sp), h, e)
+
+  pub rtn-no : get l (s .sp) ≡ Outside → err InvalidMemoryAccess (core l s) ≡ rtn (core l s)
+  unfolding rtn pop andThen orCell
+  rtn-no h = rw h
+
+  pub sr-yes : (v : Cell) (w : ℤ) → get l 101 ≡ Here v → extractWord v ≡ Is w → ok tt (core l (with-sr w s)) ≡ rtiSr (core l s)
+  unfolding rtiSr andThen orCell orWord
+  sr-yes v w h e = rw (h, e)
+
+  pub sr-not : (v : Cell) → get l 101 ≡ Here v → extractWord v ≡ NotWord → err CellError (core l s) ≡ rtiSr (core l s)
+  unfolding rtiSr andThen orCell orWord
+  sr-not v h e = rw (h, e)
+
+  pub sr-no : get l 101 ≡ Outside → err InvalidMemoryAccess (core l s) ≡ rtiSr (core l s)
+  unfolding rtiSr andThen orCell
+  sr-no h = rw h
+
+  pub rti-user : supervisor s ≡ false → err PrivilegedInstruction (core l s) ≡ rti (core l s)
+  unfolding rti checkPrivileged branch andThen
+  rti-user h = rw h
+
+  module _ (h : supervisor s ≡ true) where
+    pub rti-no : get l 100 ≡ Outside → err InvalidMemoryAccess (core l s) ≡ rti (core l s)
+    unfolding rti checkPrivileged branch andThen orCell
+    rti-no e = rw (h, e)
+
+    pub rti-not : (v : Cell) → get l 100 ≡ Here v → extractAddress v ≡ NotAddress → err CellError (core l s) ≡ rti (core l s)
+    unfolding rti checkPrivileged branch andThen orCell orAddress
+    rti-not v e f = rw (h, e, f)
+
+    pub rti-pc : (v : Cell) (n : ℕ) → get l 100 ≡ Here v → extractAddress v ≡ At n → rtiSr (core l (with-pc n s)) ≡ rti (core l s)
+    unfolding rti rtiSr checkPrivileged branch andThen orCell orAddress
+    rti-pc v n e f = rw (h, e, f)
+
+  -- cells written
+  module _ (n : ℕ) (v : Cell) where
+    pub write-in : n < cellCount l → ok tt (core (overlay n v l) s) ≡ write n v (core l s)
+    unfolding write branch
+    write-in h = rw (over-in l n v h, lt-ltb n (cellCount l) h)
+
+    pub write-out : cellCount l ≤ n → err InvalidMemoryAccess (core l s) ≡ write n v (core l s)
+    unfolding write branch
+    write-out h = rw (le-ltb n (cellCount l) h)
+
+    pub push-at : n ≡ below (s .sp) → write n v (core l (with-sp n s)) ≡ push v (core l s)
+    unfolding push andThen
+    push-at h = ap (λ (k : ℕ). write k v (core l (with-sp k s))) h
+
+  module _ (x : Arg) where
+    pub push-yes : (v : Cell) → extractBy (x .mode) (getReg (regAt (x .reg)) s) (x .number) l ≡ Here v → push v (core l s) ≡ pushOp (argOf x) (core l s)
+    unfolding pushOp andThen orCell
+    push-yes v h = rw (← extract-by (x .reg) (x .number) s (x .mode) l, h)
+
+    pub push-no : extractBy (x .mode) (getReg (regAt (x .reg)) s) (x .number) l ≡ Outside → err Extract (core l s) ≡ pushOp (argOf x) (core l s)
+    unfolding pushOp andThen orCell
+    push-no h = rw (← extract-by (x .reg) (x .number) s (x .mode) l, h)
+
+  module _ (r : Reg) (y : Arg) where
+    pub st-yes : (w : ℤ) (n : ℕ) → extractWord (getReg r s) ≡ Is w → foundAddress y s ≡ At n → write n (word w) (core l s) ≡ st r (argOf y) (core l s)
+    unfolding st andThen orWord orAddress
+    st-yes w n h₁ h₂ = rw (h₁, ← resolve-by (y .reg) (y .number) s (y .mode), h₂)
+
+    pub st-nowhere : (w : ℤ) → extractWord (getReg r s) ≡ Is w → foundAddress y s ≡ NotAddress → err CellError (core l s) ≡ st r (argOf y) (core l s)
+    unfolding st andThen orWord orAddress
+    st-nowhere w h₁ h₂ = rw (h₁, ← resolve-by (y .reg) (y .number) s (y .mode), h₂)
+
+    pub st-no : extractWord (getReg r s) ≡ NotWord → err Extract (core l s) ≡ st r (argOf y) (core l s)
+    unfolding st andThen orWord
+    st-no h₁ = rw h₁
+
+module _ (l : List ℤ) (s : Registers) where
+  -- call, d being the answer of its push
+  module _ (x : Arg) (d : Made) (h : madeRes l d ≡ push (word (pos (s .pc))) (core l s)) where
+    pub call-yes : (n : ℕ) → d .ok ≡ true → asAddress (foundWord x (planned l (d .p)) (d .p .s)) ≡ At n → ok tt (core (planned l (d .p)) (with-pc n (d .p .s))) ≡ call (argOf x) (core l s)
+    unfolding call andThen
+    call-yes n e f = jump-yes (planned l (d .p)) (d .p .s) x n f ∙ rw (← h, e)
+
+    pub call-not : d .ok ≡ true → asAddress (foundWord x (planned l (d .p)) (d .p .s)) ≡ NotAddress → err Extract (coreOf l (d .p)) ≡ call (argOf x) (core l s)
+    unfolding call andThen
+    call-not e f = jump-no (planned l (d .p)) (d .p .s) x f ∙ rw (← h, e)
+
+    pub call-no : d .ok ≡ false → madeRes l d ≡ call (argOf x) (core l s)
+    unfolding call andThen
+    call-no e = rw (← h, e)
+
+  module _ (x : Arg) (r : Reg) where
+    pub fas-yes : (n : ℕ) (v : Cell) → foundAddress x s ≡ At n → get l n ≡ Here v → orPut (putReg r v s) (core (overlay n (word (pos 1)) l) s) ≡ fas (argOf x) r (core l s)
+    unfolding fas andThen orAddress orCell write branch
+    fas-yes n v h₁ h₂ =
+        let t = get-here l n v h₂ in
+        rw (← resolve-by (x .reg) (x .number) s (x .mode), h₁, h₂, t, over-in l n (word (pos 1)) (ltb-true n (cellCount l) t))
+
+    pub fas-out : (n : ℕ) → foundAddress x s ≡ At n → get l n ≡ Outside → err InvalidMemoryAccess (core l s) ≡ fas (argOf x) r (core l s)
+    unfolding fas andThen orAddress orCell
+    fas-out n h₁ h₂ = rw (← resolve-by (x .reg) (x .number) s (x .mode), h₁, h₂)
+
+    pub fas-no : foundAddress x s ≡ NotAddress → err CellError (core l s) ≡ fas (argOf x) r (core l s)
+    unfolding fas andThen orAddress
+    fas-no h = rw (← resolve-by (x .reg) (x .number) s (x .mode), h)
+
+  -- swap's second half
+  module _ (x : Arg) (v : Cell) where
+    pub back-reg : x .mode ≡ 2 → orPut (putReg (regAt (x .reg)) v s) (core l s) ≡ swapBack (argOf x) v (core l s)
+    unfolding operand swapBack
+    back-reg h = ap (λ (m : ℕ). swapBack (operand m (x .reg) (x .number)) v (core l s)) (sym h)
+
+    back-memory : (m : ℕ) → (m ≡ 2 → ⊥) → andThen (orAddress (resolve (operand m (x .reg) (x .number)) s) CellError (core l s)) (λ n. write n v) ≡ swapBack (operand m (x .reg) (x .number)) v (core l s)
+    unfolding operand swapBack andThen orAddress resolve
+    back-memory zero h = refl
+    back-memory (suc zero) h = refl
+    back-memory (suc (suc zero)) h = absurd (h refl)
+    back-memory (suc (suc (suc zero))) h = refl
+    back-memory (suc (suc (suc (suc zero)))) h = refl
+    back-memory (suc (suc (suc (suc (suc zero))))) h = refl
+    back-memory (suc (suc (suc (suc (suc (suc m)))))) h = refl
+
+    module _ (h : x .mode ≡ 2 → ⊥) where
+      pub back-yes : (n : ℕ) → foundAddress x s ≡ At n → write n v (core l s) ≡ swapBack (argOf x) v (core l s)
+      unfolding andThen orAddress
+      back-yes n e = rw (← back-memory (x .mode) h, ← resolve-by (x .reg) (x .number) s (x .mode), e)
+
+      pub back-no : foundAddress x s ≡ NotAddress → err CellError (core l s) ≡ swapBack (argOf x) v (core l s)
+      unfolding andThen orAddress
+      back-no e = rw (← back-memory (x .mode) h, ← resolve-by (x .reg) (x .number) s (x .mode), e)
+
+  module _ (x : Arg) (r : Reg) where
+    pub swap-no : extractBy (x .mode) (getReg (regAt (x .reg)) s) (x .number) l ≡ Outside → err Extract (core l s) ≡ swap (argOf x) r (core l s)
+    unfolding swap andThen orCell
+    swap-no h = rw (← extract-by (x .reg) (x .number) s (x .mode) l, h)
+
+    module _ (v : Cell) (h : extractBy (x .mode) (getReg (regAt (x .reg)) s) (x .number) l ≡ Here v) (q : Put) (f : q ≡ settled s (putReg r v s)) where
+      go-yes : (p : R.Put) → q ≡ settled s p → putReg r v s ≡ p → q .ok ≡ true → swapBack (argOf x) (getReg r s) (core l (q .s)) ≡ swap (argOf x) r (core l s)
+      unfolding swap andThen orCell orPut
+      go-yes (assigned t) g e k = rw (g, ← extract-by (x .reg) (x .number) s (x .mode) l, h, e)
+      go-yes (refused y) g e k = absurd (true≢false (sym k ∙ ap (λ (q : Put). q .ok) g))
+
+      pub swap-yes : q .ok ≡ true → swapBack (argOf x) (getReg r s) (core l (q .s)) ≡ swap (argOf x) r (core l s)
+      swap-yes k = go-yes (putReg r v s) f refl k
+
+      go-not : (p : R.Put) → q ≡ settled s p → putReg r v s ≡ p → q .ok ≡ false → putRes l q ≡ swap (argOf x) r (core l s)
+      unfolding swap andThen orCell orPut
+      go-not (assigned t) g e k = absurd (true≢false (sym (ap (λ (q : Put). q .ok) g) ∙ k))
+      go-not (refused y) g e k = rw (g, ← extract-by (x .reg) (x .number) s (x .mode) l, h, e)
+
+      pub swap-not : q .ok ≡ false → putRes l q ≡ swap (argOf x) r (core l s)
+      swap-not k = go-not (putReg r v s) f refl k
+
+  -- requests
+  module _ (x : Arg) (r : Reg) where
+    pub in-user : supervisor s ≡ false → err PrivilegedInstruction (core l s) ≡ inOp (argOf x) r (core l s)
+    unfolding inOp checkPrivileged branch andThen
+    in-user h = rw h
+
+    pub in-no : supervisor s ≡ true → foundAddress x s ≡ NotAddress → err CellError (core l s) ≡ inOp (argOf x) r (core l s)
+    unfolding inOp checkPrivileged branch andThen orAddress
+    in-no h e = rw (h, ← resolve-by (x .reg) (x .number) s (x .mode), e)
+
+    pub in-yes : (n : ℕ) → supervisor s ≡ true → foundAddress x s ≡ At n → ok (reads n r) (core l s) ≡ inOp (argOf x) r (core l s)
+    unfolding inOp checkPrivileged branch andThen orAddress
+    in-yes n h e = rw (h, ← resolve-by (x .reg) (x .number) s (x .mode), e)
+
+  module _ (x y : Arg) where
+    pub out-user : supervisor s ≡ false → err PrivilegedInstruction (core l s) ≡ outOp (argOf x) (argOf y) (core l s)
+    unfolding outOp checkPrivileged branch andThen
+    out-user h = rw h
+
+    module _ (h : supervisor s ≡ true) where
+      pub out-not : foundWord x l s ≡ NotWord → err Extract (core l s) ≡ outOp (argOf x) (argOf y) (core l s)
+      unfolding outOp checkPrivileged branch andThen orWord
+      out-not e = rw (h, ← word-by (x .reg) (x .number) s (x .mode) l, e)
+
+      pub out-no : (w : ℤ) → foundWord x l s ≡ Is w → foundAddress y s ≡ NotAddress → err CellError (core l s) ≡ outOp (argOf x) (argOf y) (core l s)
+      unfolding outOp checkPrivileged branch andThen orWord orAddress
+      out-no w e f = rw (h, ← word-by (x .reg) (x .number) s (x .mode) l, e, ← resolve-by (y .reg) (y .number) s (y .mode), f)
+
+      pub out-yes : (w : ℤ) (n : ℕ) → foundWord x l s ≡ Is w → foundAddress y s ≡ At n → ok (writes n w) (core l s) ≡ outOp (argOf x) (argOf y) (core l s)
+      unfolding outOp checkPrivileged branch andThen orWord orAddress
+      out-yes w n e f = rw (h, ← word-by (x .reg) (x .number) s (x .mode) l, e, ← resolve-by (y .reg) (y .number) s (y .mode), f)

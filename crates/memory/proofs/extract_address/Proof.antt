@@ -1,0 +1,41 @@
+use Rattle.definition.specs.Memory.{extractAddress}
+use Rattle.word.proofs.Laws.{back}
+use Rattle.memory.proofs.Laws.{as-is, as-not}
+use borrow.Author.Needs.{needs}
+use Rattle.memory.proofs.extract_address.Statement.{statement}
+use Rattle.memory.proofs.extract_address.Tie as tie
+use Rattle.memory.proofs.extract_address.Reads as reads
+use Rattle.memory.proofs.extract_address.Lts as lts
+use Rattle.memory.proofs.extract_word.Reads as extract-word-reads
+use Rattle.word.proofs.to_address.Reads as to-address-reads
+
+-- src/lib.rt:84:11
+extract-word-requires : tie.Need-extract-word-requires
+extract-word-requires c κs = search needs
+
+-- src/lib.rt:85:18
+enum-known-w : tie.Need-enum-known-w
+enum-known-w c = search needs
+
+-- src/lib.rt:85:24
+to-address-requires : tie.Need-to-address-requires
+to-address-requires c κs = search needs
+
+-- src/lib.rt:86:26
+enum-told : tie.Need-enum-told
+enum-told c = search needs
+
+-- src/lib.rt:81:1
+returns : tie.Need-returns
+unfolding extractAddress
+returns c = let w = c .before .before .w .given .0 .0 in cc (as-is w, back w (c .before .known-told .given .0 .1))
+
+-- src/lib.rt:81:1
+returns-2 : tie.Need-returns-2
+unfolding extractAddress
+returns-2 c = cc (as-not)
+
+pub extract-address-spec : {M : Type 1} → statement M
+extract-address-spec =
+    tie.close
+    (tie.spec extract-word-requires enum-known-w to-address-requires enum-told returns returns-2)

@@ -1,0 +1,4 @@
+pub mod Verdict
+pub mod Passed
+pub mod RowBack
+pub mod Lists

@@ -1,0 +1,78 @@
+-- `refusals::console_numbers` meets its contract.
+use native.Mathlib.Omega.{arith}
+use native.Mathlib.Numerals.{add-one}
+use borrow.Author.Needs.{needs}
+use Rattle.definition.specs.Calls.{verdict, rowTests}
+use Rattle.refusals.proofs.console_numbers.Statement.{statement}
+use Rattle.refusals.proofs.console_numbers.Tie as tie
+
+add-below-at : tie.Need-add-below-at
+add-below-at c = search needs
+
+below-at-requires : tie.Need-below-at-requires
+below-at-requires c κs = search needs
+
+accept-requires : tie.Need-accept-requires
+accept-requires c κs = search needs
+
+check-requires : tie.Need-check-requires
+check-requires c κs = search needs
+
+add-below-at-2 : tie.Need-add-below-at-2
+add-below-at-2 c = search needs
+
+below-at-requires-2 : tie.Need-below-at-requires-2
+below-at-requires-2 c κs = search needs
+
+check-requires-2 : tie.Need-check-requires-2
+check-requires-2 c κs = search needs
+
+below-at-requires-3 : tie.Need-below-at-requires-3
+below-at-requires-3 c κs = search needs
+
+check-requires-3 : tie.Need-check-requires-3
+check-requires-3 c κs = search needs
+
+is-mark-at-requires : tie.Need-is-mark-at-requires
+is-mark-at-requires c κs = search needs
+
+check-requires-4 : tie.Need-check-requires-4
+check-requires-4 c κs = search needs
+
+is-mark-at-requires-2 : tie.Need-is-mark-at-requires-2
+is-mark-at-requires-2 c κs = search needs
+
+check-requires-5 : tie.Need-check-requires-5
+check-requires-5 c κs = search needs
+
+is-mark-at-requires-3 : tie.Need-is-mark-at-requires-3
+is-mark-at-requires-3 c κs = omega (arith, c .before .before .before .before .before .before .before .before .before .before .before .pre .0)
+
+check-requires-6 : tie.Need-check-requires-6
+check-requires-6 c κs = search needs
+
+returns : tie.Need-returns
+unfolding verdict rowTests
+returns c = let a = c .before .before .before .before .before .before .before .before .before .before .before .before .before .args in
+    rw (c .check6 .ensures, c .before .is-mark-at3 .ensures, c .before .before .check5 .ensures, c .before .before .before .is-mark-at2 .ensures, c .before .before .before .before .check4 .ensures, c .before .before .before .before .before .is-mark-at .ensures, c .before .before .before .before .before .before .check3 .ensures, c .before .before .before .before .before .before .before .below-at3 .ensures, c .before .before .before .before .before .before .before .before .check2 .ensures, c .before .before .before .before .before .before .before .before .before .below-at2 .ensures, c .before .before .before .before .before .before .before .before .before .before .check .ensures, c .before .before .before .before .before .before .before .before .before .before .before .before .below-at .ensures, c .before .before .before .before .before .before .before .before .before .before .before .accept .ensures, add-one (a .q), add-one (a .o))
+
+pub console-numbers-spec : {M : Type 1} → statement M
+console-numbers-spec =
+    tie.close
+    (tie.spec
+    add-below-at
+    below-at-requires
+    accept-requires
+    check-requires
+    add-below-at-2
+    below-at-requires-2
+    check-requires-2
+    below-at-requires-3
+    check-requires-3
+    is-mark-at-requires
+    check-requires-4
+    is-mark-at-requires-2
+    check-requires-5
+    is-mark-at-requires-3
+    check-requires-6
+    returns)

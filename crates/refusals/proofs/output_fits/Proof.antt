@@ -1,0 +1,12 @@
+-- `refusals::output_fits` meets its contract.
+use mathlib.Core.Path.{refl}
+use Rattle.definition.specs.Calls.{outputTest}
+use Rattle.refusals.proofs.output_fits.Statement.{statement}
+use Rattle.refusals.proofs.output_fits.Tie as tie
+
+returns : tie.Need-returns
+unfolding outputTest
+returns c = refl
+
+pub output-fits-spec : {M : Type 1} → statement M
+output-fits-spec = tie.close (tie.spec returns)

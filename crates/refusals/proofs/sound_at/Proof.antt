@@ -1,0 +1,18 @@
+-- `refusals::sound_at` meets its contract.
+use mathlib.Core.Path.{_∙_, ap}
+use borrow.Author.Needs.{needs}
+use Rattle.definition.specs.Encoding.{sound}
+use Rattle.refusals.proofs.sound_at.Statement.{statement}
+use Rattle.refusals.proofs.sound_at.Tie as tie
+
+cell-at-requires : tie.Need-cell-at-requires
+cell-at-requires c κs = search needs
+
+sound-cell-requires : tie.Need-sound-cell-requires
+sound-cell-requires c κs = search needs
+
+returns : tie.Need-returns
+returns c = c .sound-cell .ensures ∙ ap sound (c .before .cell-at .ensures)
+
+pub sound-at-spec : {M : Type 1} → statement M
+sound-at-spec = tie.close (tie.spec cell-at-requires sound-cell-requires returns)

@@ -1,0 +1,40 @@
+-- Registers by number, and answers as results: what the proofs of this crate and of those above cite.
+use mathlib.Core.Path.{_≡_, refl, sym, ap}
+use mathlib.Core.List.{List}
+use Prim.Native.Nat.{ℕ, zero, suc, _-_}
+use native.Mathlib.Omega.{arith}
+use lib.IntN.{ℤ}
+use Rattle.definition.specs.declared.Registers.{Registers}
+use Rattle.definition.specs.Registers as R
+use Rattle.definition.specs.Registers.{A, regAt}
+use Rattle.definition.specs.Computer.{core, orPut, below}
+use Rattle.registers.specs.Answer.{settled, putRes}
+
+-- a register's number, and any number past 4 is a
+pub reg-is : (n k : ℕ) → n ≡ k → regAt k ≡ regAt n
+reg-is n k e = ap regAt (sym e)
+
+pub reg-else : (n : ℕ) → (n ≡ 1 → ⊥) → (n ≡ 2 → ⊥) → (n ≡ 3 → ⊥) → (n ≡ 4 → ⊥) → A ≡ regAt n
+unfolding regAt
+reg-else zero h₁ h₂ h₃ h₄ = refl
+reg-else (suc zero) h₁ h₂ h₃ h₄ = absurd (h₁ refl)
+reg-else (suc (suc zero)) h₁ h₂ h₃ h₄ = absurd (h₂ refl)
+reg-else (suc (suc (suc zero))) h₁ h₂ h₃ h₄ = absurd (h₃ refl)
+reg-else (suc (suc (suc (suc zero)))) h₁ h₂ h₃ h₄ = absurd (h₄ refl)
+reg-else (suc (suc (suc (suc (suc n))))) h₁ h₂ h₃ h₄ = refl
+
+-- an answer is what the definition assigns
+pub settled-is : (s : Registers) (l : List ℤ) (p : R.Put) → putRes l (settled s p) ≡ orPut p (core l s)
+unfolding orPut
+settled-is s l (R.assigned t) = refl
+settled-is s l (R.refused e) = refl
+
+pub below-zero : (n : ℕ) → n ≡ 0 → 4294967295 ≡ below n
+unfolding below
+below-zero zero h = refl
+below-zero (suc n) h = absurd (omega arith)
+
+pub below-suc : (n : ℕ) → (n ≡ 0 → ⊥) → n - 1 ≡ below n
+unfolding below
+below-suc zero h = absurd (h refl)
+below-suc (suc n) h = omega arith

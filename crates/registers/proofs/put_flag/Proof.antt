@@ -1,0 +1,18 @@
+use Rattle.word.proofs.Laws.{back}
+use borrow.Author.Needs.{needs}
+use Rattle.registers.proofs.put_flag.Statement.{statement}
+use Rattle.registers.proofs.put_flag.Tie as tie
+use Rattle.registers.proofs.put_flag.Reads as reads
+use Rattle.registers.proofs.put_flag.Lts as lts
+use Rattle.word.proofs.put_bit.Reads as put-bit-reads
+
+-- src/lib.rt:51:5
+put-bit-requires : tie.Need-put-bit-requires
+put-bit-requires c κs = search needs
+
+-- src/lib.rt:46:1
+returns : tie.Need-returns
+returns c = cc (back (c .before .before .args .s .sr) (c .before .struct-told .given .1 .1 .1 .1 .0 .1), back (c .put-bit .result) (c .put-bit .ok))
+
+pub put-flag-spec : {M : Type 1} → statement M
+put-flag-spec = tie.close (tie.spec put-bit-requires returns)

@@ -1,0 +1,41 @@
+use mathlib.Core.Path.{sym, _∙_, ap}
+use Rattle.definition.specs.Registers.{putSp}
+use Rattle.definition.specs.declared.Address.{Address}
+use Rattle.registers.specs.Answer.{settled}
+use borrow.Author.Needs.{needs}
+use Rattle.registers.proofs.put_sp.Statement.{statement}
+use Rattle.registers.proofs.put_sp.Tie as tie
+use Rattle.registers.proofs.put_sp.Reads as reads
+use Rattle.registers.proofs.put_sp.Lts as lts
+use Rattle.registers.proofs.accept.Reads as accept-reads
+use Rattle.registers.proofs.refuse.Reads as refuse-reads
+
+-- src/lib.rt:92:21
+enum-known-n : tie.Need-enum-known-n
+enum-known-n c = search needs
+
+-- src/lib.rt:95:13
+accept-requires : tie.Need-accept-requires
+accept-requires c κs = search needs
+
+-- src/lib.rt:97:42
+enum-told : tie.Need-enum-told
+enum-told c = search needs
+
+-- src/lib.rt:97:32
+refuse-requires : tie.Need-refuse-requires
+refuse-requires c κs = search needs
+
+-- src/lib.rt:88:1
+returns : tie.Need-returns
+unfolding putSp
+returns c = let s = c .before .before .before .before .args .s in c .accept .ensures ∙ ap (λ (n : Address). settled s (putSp n s)) (sym (c .before .before .n .given .1))
+
+-- src/lib.rt:88:1
+returns-2 : tie.Need-returns-2
+unfolding putSp
+returns-2 c = let s = c .before .before .before .args .s in c .refuse .ensures ∙ ap (λ (n : Address). settled s (putSp n s)) (sym (c .before .enum-told .given .1))
+
+pub put-sp-spec : {M : Type 1} → statement M
+put-sp-spec =
+    tie.close (tie.spec enum-known-n accept-requires enum-told refuse-requires returns returns-2)

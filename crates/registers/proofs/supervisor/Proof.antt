@@ -1,0 +1,20 @@
+use Rattle.definition.specs.Registers.{supervisor}
+use Rattle.word.proofs.Laws.{back}
+use borrow.Author.Needs.{needs}
+use Rattle.registers.proofs.supervisor.Statement.{statement}
+use Rattle.registers.proofs.supervisor.Tie as tie
+use Rattle.registers.proofs.supervisor.Reads as reads
+use Rattle.registers.proofs.supervisor.Lts as lts
+use Rattle.word.proofs.test_bit.Reads as test-bit-reads
+
+-- src/lib.rt:36:5
+test-bit-requires : tie.Need-test-bit-requires
+test-bit-requires c κs = search needs
+
+-- src/lib.rt:33:1
+returns : tie.Need-returns
+unfolding supervisor
+returns c = cc (back (c .before .before .args .s .sr) (c .before .struct-told .given .1 .1 .1 .1 .0 .1))
+
+pub supervisor-spec : {M : Type 1} → statement M
+supervisor-spec = tie.close (tie.spec test-bit-requires returns)

@@ -1,0 +1,3 @@
+pub mod Laws
+pub mod Decided
+pub mod Served

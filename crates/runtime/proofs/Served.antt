@@ -1,0 +1,126 @@
+-- An instruction and the console's part in it: what each way through `perform` says of the definition.
+use mathlib.Core.Path.{_≡_, refl, sym, ap, _∙_}
+use mathlib.Core.Bool.{Bool, true, false, cond, _&&_, _||_, true≢false}
+use mathlib.Core.List.{List}
+use Prim.Native.Nat.{ℕ, _<_, _≤_}
+use native.Mathlib.Omega.{arith}
+use lib.IntN.{ℤ, pos}
+use lib.ListN.{length, replicate, length-replicate}
+use lib.Dec.{eqb, leb}
+use borrow.Author.Tests.{eqb-true, eqb-false, eq-eqb, leb-false}
+use Rattle.definition.specs.declared.Registers.{Registers}
+use Rattle.definition.specs.declared.Error.{Error}
+use Rattle.definition.specs.Exception.{OUTPUT-FULL}
+use Rattle.definition.specs.Memory.{cellCount, empty, word}
+use Rattle.definition.specs.Registers.{Reg, regAt}
+use Rattle.definition.specs.Encoding.{opAt}
+use Rattle.definition.specs.Io.{Console, readPort, writePort, outputFull}
+use Rattle.definition.specs.Computer.{Core, core, Res, ok, err}
+use Rattle.definition.specs.Instructions.{Request, nothing, reads, writes, inOp, outOp, execute, setRegister}
+use Rattle.definition.specs.Runtime as M
+use Rattle.definition.specs.Runtime.{Machine, machine, Executed}
+use Rattle.memory.specs.Overlay.{overlay}
+use Rattle.registers.specs.declared.Put.{Put}
+use Rattle.registers.specs.Answer.{result, answer, putRes}
+use Rattle.arguments.specs.By.{argOf}
+use Rattle.instructions.specs.declared.Made.{Made}
+use Rattle.instructions.specs.Plan.{made, asker}
+use Rattle.encoding.specs.declared.Instr.{Instr}
+use Rattle.console.specs.declared.ConsoleState.{ConsoleState}
+use Rattle.console.specs.declared.Sent.{Sent}
+use Rattle.console.specs.State.{consoleOf, Sends}
+use Rattle.runtime.specs.declared.arrive.Performed.{Performed}
+use Rattle.runtime.specs.declared.perform.Served.{Served}
+use Rattle.runtime.specs.Meaning.{sent, performedRes, kept, keptMade, attempted, executedAt, servedTurn, Serves}
+use Rattle.runtime.proofs.Laws.{over-out}
+
+abbrev done : Performed → Served
+done e = record { full = false; e = e }
+
+-- in is operation 6, out operation 20
+pub is-in : (l : List ℤ) (s : Registers) (i : Instr) → i .op ≡ 6 → inOp (argOf (i .x)) (regAt (i .y .reg)) (core l s) ≡ executedAt l s i
+unfolding execute opAt
+is-in l s i h =
+    sym (ap (λ (n : ℕ). execute (opAt n) (argOf (i .x)) (argOf (i .y)) (regAt (i .x .reg)) (regAt (i .y .reg)) (core l s)) h)
+
+pub is-out : (l : List ℤ) (s : Registers) (i : Instr) → i .op ≡ 20 → outOp (argOf (i .x)) (argOf (i .y)) (core l s) ≡ executedAt l s i
+unfolding execute opAt
+is-out l s i h =
+    sym (ap (λ (n : ℕ). execute (opAt n) (argOf (i .x)) (argOf (i .y)) (regAt (i .x .reg)) (regAt (i .y .reg)) (core l s)) h)
+
+pub asks-out : (n : ℕ) → asker n ≡ true → (n ≡ 6 → ⊥) → n ≡ 20
+asks-out n h k = go (eqb n 6) refl h
+  where
+    go : (b : Bool) → eqb n 6 ≡ b → (b || eqb n 20) ≡ true → n ≡ 20
+    go true e q = absurd (k (eqb-true n 6 e))
+    go false e q = eqb-true n 20 q
+
+-- an instruction that asks nothing
+after-result : (c : Core) (n : ℕ) (k : Console) (cost : ℕ) (b : Bool) (e : Error) (d : Core) → M.conclude cost n k (result tt b e d) ≡ M.afterAttempt (machine c n k) (attempted cost (result nothing b e d))
+unfolding M.afterAttempt M.serve M.conclude
+after-result c n k cost true e d = refl
+after-result c n k cost false e d = refl
+
+module _ (l : List ℤ) (q : List ℕ) (size : ℕ) (s : Registers) (k : ConsoleState) (i : Instr) where
+  -- no cell waits
+  none-waits : cellCount l ≤ 10000 → overlay 4294967295 empty l ≡ l
+  none-waits h = over-out l 4294967295 empty (omega arith)
+
+  pub serves-kept : cellCount l ≤ 10000 → (p : Put) → answer nothing l p ≡ executedAt l s i → Serves l q size s k i (done (kept p k))
+  serves-kept h p e =
+      record {
+        is = λ o _ c n. ap (λ (x : List ℤ). M.conclude (i .cost) n (consoleOf k q o) (result tt (p .ok) (p .error) (core x (p .s)))) (none-waits h) ∙ after-result c n (consoleOf k q o) (i .cost) (p .ok) (p .error) (core l (p .s)) ∙ ap (λ (r : Res Request). M.afterAttempt (machine c n (consoleOf k q o)) (attempted (i .cost) r)) e;
+        room = λ _ t. absurd (true≢false (sym t));
+      }
+
+  pub serves-made : (d : Made) → made nothing l d ≡ executedAt l s i → Serves l q size s k i (done (keptMade d k))
+  serves-made d e =
+      record {
+        is = λ o _ c n. after-result c n (consoleOf k q o) (i .cost) (d .ok) (d .error) _ ∙ ap (λ (r : Res Request). M.afterAttempt (machine c n (consoleOf k q o)) (attempted (i .cost) r)) e;
+        room = λ _ t. absurd (true≢false (sym t));
+      }
+
+  -- in
+  pub serves-input : cellCount l ≤ 10000 → (port value : ℕ) (r : Reg) (k' : ConsoleState) (p : Put) → ok (reads port r) (core l s) ≡ executedAt l s i → ((o : List ℕ) → (value, consoleOf k' q o) ≡ readPort port (consoleOf k q o)) → putRes l p ≡ setRegister r (word (pos value)) (core l s) → Serves l q size s k i (done (kept p k'))
+  unfolding M.afterAttempt M.serve
+  serves-input h port value r k' p e f g =
+      record {
+        is = λ o _ c n.
+            ap (λ (x : List ℤ). M.conclude (i .cost) n (consoleOf k' q o) (result tt (p .ok) (p .error) (core x (p .s)))) (none-waits h)
+            ∙ ap (λ (x : Res (Unit {0})). M.conclude (i .cost) n (consoleOf k' q o) x) g
+            ∙ ap (λ (y : ℕ × Console). M.conclude (i .cost) n (y .1) (setRegister r (word (pos (y .0))) (core l s))) (f o)
+            ∙ ap (λ (x : Res Request). M.afterAttempt (machine c n (consoleOf k q o)) (attempted (i .cost) x)) e;
+        room = λ _ t. absurd (true≢false (sym t));
+      }
+
+  -- out
+  pub serves-full : (port : ℕ) (w : ℤ) (p : Performed) → ok (writes port w) (core l s) ≡ executedAt l s i → ((q o : List ℕ) → length o ≡ size → true ≡ outputFull port (consoleOf k q o)) → Serves l q size s k i (record { full = true; e = p })
+  unfolding M.afterAttempt M.serve
+  serves-full port w p e f =
+      record {
+        is = λ o h c n.
+            ap (λ (b : Bool). cond b (M.stops OUTPUT-FULL 0 (machine c n (consoleOf k q o))) (M.conclude (i .cost) n (writePort port w (consoleOf k q o)) (ok tt (core l s)))) (f q o h)
+            ∙ ap (λ (x : Res Request). M.afterAttempt (machine c n (consoleOf k q o)) (attempted (i .cost) x)) e;
+        room = λ t _. absurd (true≢false t);
+      }
+
+  room-for : (port : ℕ) → ((q o : List ℕ) → length o ≡ size → false ≡ outputFull port (consoleOf k q o)) → port ≡ 111 → k .written < size
+  unfolding outputFull
+  room-for port f e =
+      let h : length (replicate {A = ℕ} size 0) ≡ size = length-replicate {A = ℕ} size 0 in
+      let g : false ≡ (eqb port 111 && leb (length (replicate {A = ℕ} size 0)) (k .written)) = f q (replicate {A = ℕ} size 0) h in
+      let r : leb (length (replicate {A = ℕ} size 0)) (k .written) ≡ false = sym (g ∙ ap (λ (b : Bool). b && leb (length (replicate {A = ℕ} size 0)) (k .written)) (eq-eqb port 111 e)) in
+      let t : k .written < length (replicate {A = ℕ} size 0) = leb-false _ _ r in
+      omega arith
+
+  pub serves-sent : cellCount l ≤ 10000 → (port : ℕ) (w : ℤ) (x : Sent) (error : Error) → ok (writes port w) (core l s) ≡ executedAt l s i → ((q o : List ℕ) → length o ≡ size → false ≡ outputFull port (consoleOf k q o)) → Sends k port w x → Serves l q size s k i (done (record { ok = true; error = error; s = s; at = 4294967295; v = empty; k = x .k; sends = x .sends; to = k .written; byte = x .byte }))
+  unfolding M.afterAttempt M.serve
+  serves-sent h port w x error e f g =
+      record {
+        is = λ o t c n.
+            ap (λ (y : List ℤ). M.conclude (i .cost) n (consoleOf (x .k) q (sent (x .sends) (k .written) (x .byte) o)) (ok tt (core y s))) (none-waits h)
+            ∙ ap (λ (y : Console). M.conclude (i .cost) n y (ok tt (core l s))) (g .is q o)
+            ∙ ap (λ (b : Bool). cond b (M.stops OUTPUT-FULL 0 (machine c n (consoleOf k q o))) (M.conclude (i .cost) n (writePort port w (consoleOf k q o)) (ok tt (core l s)))) (f q o t)
+            ∙ ap (λ (y : Res Request). M.afterAttempt (machine c n (consoleOf k q o)) (attempted (i .cost) y)) e;
+        room = λ _ t. room-for port f (g .port-is t);
+      }

@@ -1,0 +1,69 @@
+use Rattle.runtime.proofs.Laws.{not-code, is-code, near, decode-small}
+use native.Mathlib.Omega.{arith}
+use Prim.Native.Nat.{_-_}
+use lib.IntN.{natAbs}
+use mathlib.Core.Path.{_≡_, _∙_, sym, ap}
+use mathlib.Core.Bool.{true, false}
+use mathlib.Core.List.{List}
+use lib.IntN.{ℤ, pos}
+use lib.Signed.{ltZ}
+use Rattle.word.proofs.Laws.{back}
+use Rattle.definition.specs.Encoding.{Extracted, extractInstruction, sound, Instruction, instruction}
+use Rattle.definition.specs.Computer.{core, ok}
+use Rattle.definition.specs.Runtime.{orInstruction}
+use Rattle.encoding.proofs.Sound.{code}
+use Rattle.runtime.proofs.Laws.{not-code, is-code, near}
+use borrow.Author.Needs.{needs}
+use Rattle.runtime.proofs.fetch.decoded.Statement.{statement}
+use Rattle.runtime.proofs.fetch.decoded.Tie as tie
+use Rattle.runtime.proofs.fetch.decoded.Reads as reads
+use Rattle.runtime.proofs.fetch.decoded.Lts as lts
+use Rattle.encoding.proofs.decode.Reads as decode-reads
+use Rattle.runtime.proofs.fetch.no_instruction.Reads as no-instruction-reads
+
+-- src/fetch.rt:40:74
+no-instruction-requires : tie.Need-no-instruction-requires
+no-instruction-requires c κs = search needs
+
+-- src/fetch.rt:40:9
+returns : tie.Need-returns
+unfolding extractInstruction orInstruction
+returns c = let a = c .before .before .before .args in let v = a .v in
+    let h : ltZ (v .tag) (pos 2) ≡ true = rw (back (v .tag) (c .before .before .struct-told .given .0 .1)) at (c .before .if1 .taken) in
+    record { is = λ (l : List ℤ). sym (ap (λ (x : Extracted). orInstruction x (core l (a .s))) (not-code (v .tag) (v .first) (v .second) h)); cheap = (let z = c .no-instruction .ensures in omega arith) }
+
+-- src/fetch.rt:42:74
+cast-decode : tie.Need-cast-decode
+unfolding sound
+cast-decode c = let v = c .before .before .args .v in
+    let b = back (v .tag) (c .before .struct-told .given .0 .1) in
+    rw b (code (v .tag) (rw b at (c .if1 .left)) (near (v .tag) (v .first) (v .second) (c .before .before .pre .0)) .whole)
+
+-- src/fetch.rt:42:73
+sub-decode : tie.Need-sub-decode
+unfolding sound
+sub-decode c = let v = c .before .before .args .v in
+    let b = back (v .tag) (c .before .struct-told .given .0 .1) in
+    rw b (code (v .tag) (rw b at (c .if1 .left)) (near (v .tag) (v .first) (v .second) (c .before .before .pre .0)) .least)
+
+-- src/fetch.rt:42:49
+decode-requires : tie.Need-decode-requires
+unfolding sound
+decode-requires c κs = let v = c .before .before .before .before .args .v in
+    let b = back (v .tag) (c .before .before .before .struct-told .given .0 .1) in
+    (rw b (code (v .tag) (rw b at (c .before .before .if1 .left)) (near (v .tag) (v .first) (v .second) (c .before .before .before .before .pre .0)) .most), c .before .before .before .before .pre .1)
+
+-- src/fetch.rt:34:1
+returns-2 : tie.Need-returns-2
+unfolding extractInstruction orInstruction
+returns-2 c = let a = c .before .before .before .before .before .args in let v = a .v in
+    let g = c .before .before .before .before .struct-told .given in
+    let b = back (v .tag) (g .0 .1) in
+    let h : ltZ (v .tag) (pos 2) ≡ false = rw b at (c .before .before .before .if1 .left) in
+    let e = rw (b, back (v .first) (g .1 .0 .1), back (v .second) (g .1 .1 .0 .1)) at (c .decode .ensures) in
+    record { is = λ (l : List ℤ). ap (λ (i : Instruction). ok i (core l (a .s))) e ∙ sym (ap (λ (x : Extracted). orInstruction x (core l (a .s))) (is-code (v .tag) (v .first) (v .second) h)); cheap = (let z = ap (λ (i : Instruction). i .cycles) e in let b = decode-small (natAbs (v .tag) - 2) (v .first) (v .second) in omega arith) }
+
+pub decoded-spec : {M : Type 1} → statement M
+decoded-spec =
+    tie.close
+    (tie.spec no-instruction-requires returns cast-decode sub-decode decode-requires returns-2)

@@ -1,0 +1,109 @@
+// From an executed instruction to where the step arrives: its end, exception entry, or a stop.
+use console::ConsoleState;
+use definition::Cell;
+use definition::Error;
+use definition::Marks;
+use definition::Registers;
+ghost use mathlib.Core.Path.{_≡_};
+ghost use mathlib.Core.Bool.{false};
+ghost use Prim.Native.Nat.{_+_, _<_, _^_};
+ghost use Rattle.runtime.specs.Meaning.{Concludes};
+
+// An executed instruction: how it ended, the registers, the cell write that waits (v at `at`), the console, and the byte that waits.
+// Where ok, `error` is a filler.
+pub struct Performed {
+    pub ok: bool,
+    pub error: Error,
+    pub s: Registers,
+    pub at: u32,
+    pub v: Cell,
+    pub k: ConsoleState,
+    pub sends: bool,
+    pub to: usize,
+    pub byte: u8,
+}
+
+// Where the step arrives. It enters with the code `number`, or stops with `number` and `detail`, or completes.
+pub struct Arrival {
+    pub enters: bool,
+    pub stops: bool,
+    pub number: u32,
+    pub detail: u32,
+    pub s: Registers,
+    pub at: u32,
+    pub v: Cell,
+    pub cycles: u64,
+    pub k: ConsoleState,
+    pub sends: bool,
+    pub to: usize,
+    pub byte: u8,
+}
+
+// "if I is set, the pending mark is taken"
+fn taken(k: ConsoleState) -> ConsoleState
+    ensures { λ r. ⌜ r ≡ record { marks = record { enable = k .marks .enable; flag = k .marks .flag; pending = false }; start = k .start; count = k .count; written = k .written } ⌝ }
+{
+    let old = k.marks;
+    let marks = Marks {
+        enable: old.enable,
+        flag: old.flag,
+        pending: false,
+    };
+    ConsoleState {
+        marks,
+        start: k.start,
+        count: k.count,
+        written: k.written,
+    }
+}
+
+fn arrived(
+    e: Performed,
+    enters: bool,
+    stops: bool,
+    number: u32,
+    detail: u32,
+    cycles: u64,
+    k: ConsoleState,
+) -> Arrival
+    ensures { λ r. ⌜ r ≡ record { enters = enters; stops = stops; number = number; detail = detail; s = e .s; at = e .at; v = e .v; cycles = cycles; k = k; sends = e .sends; to = e .to; byte = e .byte } ⌝ }
+{
+    let s = e.s;
+    let v = e.v;
+    Arrival {
+        enters,
+        stops,
+        number,
+        detail,
+        s,
+        at: e.at,
+        v,
+        cycles,
+        k,
+        sends: e.sends,
+        to: e.to,
+        byte: e.byte,
+    }
+}
+
+// "After a completed instruction its cost is added; then, if I is set, the pending mark is taken and, if it was set, code 0 is entered. An
+// exception step doesn't poll."
+pub fn conclude(e: Performed, cost: u64, cycles: u64) -> Arrival
+    requires { ⌜ cycles + cost < 2 ^ 64 ⌝ }
+    ensures { λ r. ⌜ Concludes e cost cycles r ⌝ }
+{
+    let k = e.k;
+    if e.ok {
+        let marks = k.marks;
+        let s = e.s;
+        let n = cycles + cost;
+        if registers::interrupt_enable(s) & marks.pending {
+            return arrived(e, true, false, 0, 0, n, taken(k));
+        }
+        return arrived(e, false, false, 0, 0, n, k);
+    }
+    let error = e.error;
+    let x = super::ending::ending(error);
+    let exception = x.exception;
+    arrived(e, exception, !exception, x.number, x.detail, cycles, k)
+}

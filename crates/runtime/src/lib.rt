@@ -1,0 +1,18 @@
+// mod.rs: fetch, exception entry, poll, a step and a run.
+use console::ConsoleState;
+use definition::Registers;
+
+pub mod arrive;
+pub mod commit;
+pub mod decide;
+pub mod ending;
+pub mod entry;
+pub mod fetch;
+pub mod perform;
+
+// Computer, without the lent cells, queue and output record.
+pub struct State {
+    pub s: Registers,
+    pub cycles: u64,
+    pub k: ConsoleState,
+}

@@ -1,0 +1,123 @@
+-- run and raise on what they are lent.
+use mathlib.Core.Path.{_≡_, refl, sym, ap, _∙_, subst}
+use mathlib.Core.Bool.{Bool, true, false, cond, true≢false}
+use mathlib.Core.List.{List, []}
+use Prim.Native.Nat.{ℕ, suc, _+_, _<_, _≤_}
+use native.Mathlib.Omega.{arith}
+use lib.IntN.{ℤ, pos}
+use lib.Dec.{ltb}
+use borrow.Author.Tests.{ltb-true}
+use Rattle.definition.specs.declared.Ran.{Ran}
+use Rattle.definition.specs.declared.Raised.{Raised}
+use Rattle.definition.specs.Constants.{CYCLES-END}
+use Rattle.definition.specs.Memory.{cellCount, empty}
+use Rattle.definition.specs.Computer.{core}
+use Rattle.definition.specs.Io.{Console}
+use Rattle.definition.specs.Runtime as M
+use Rattle.definition.specs.Runtime.{Machine, machine, Run}
+use Rattle.definition.specs.Calls.{machineOf, rowOf, Called, called, passes, Lent, lent, lentMachine, lentOf, runCheck, ran, runRefused, runCall, raiseCheck, quietMachine, raised, raise}
+use Rattle.definition.proofs.Row.{AcceptedMachine, accepted-machine}
+use Rattle.definition.proofs.Accepted.{call-is, run-ends}
+use Rattle.console.specs.declared.ConsoleState.{ConsoleState}
+use Rattle.console.specs.State.{consoleOf}
+use Rattle.memory.proofs.Laws.{over-none}
+use Rattle.memory.specs.Overlay.{overlay}
+use Rattle.runtime.specs.declared.State.{State}
+use Rattle.runtime.specs.declared.arrive.Arrival.{Arrival}
+use Rattle.runtime.specs.declared.decide.Decision.{Decision}
+use Rattle.runtime.specs.Meaning.{machineAt, outcomeAt, decidedAt, decidedOf, Decides}
+use Rattle.runtime.proofs.Laws.{over-out}
+use Rattle.computer.specs.declared.Ended.{Ended}
+use Rattle.computer.specs.Meaning.{endedOf}
+use Rattle.z33.specs.Meaning.{rowState}
+
+-- the row written anew looks at no list
+pub row-at : (l : List ℤ) (q o : List ℕ) (m : State) → rowOf (machine (core [] (m .s)) (m .cycles) (consoleOf (m .k) [] [])) ≡ rowOf (machineAt l q o m)
+unfolding rowOf
+row-at l q o m = refl
+
+pub state-is : (l : List ℤ) (q o : List ℕ) (row : List ℤ) → machineAt l q o (rowState row) ≡ machineOf l q o row
+unfolding machineOf
+state-is l q o row = refl
+
+-- ---- run
+
+module _ (l : List ℤ) (q o : List ℕ) (row : List ℤ) (h : passes (runCheck (lent l q o row)) ≡ true) where
+  pub run-accepted : AcceptedMachine (machineAt l q o (rowState row))
+  run-accepted = subst AcceptedMachine (sym (state-is l q o row)) (accepted-machine (lent l q o row) h)
+
+  module _ (b : ℕ) (l' : List ℤ) (o' : List ℕ) (e : Ended) (f : endedOf l' q o' e ≡ M.run b (machineAt l q o (rowState row))) where
+    pub left-accepted : AcceptedMachine (machineAt l' q o' (e .m))
+    left-accepted = subst (λ (r : Run). AcceptedMachine (r .left)) (sym f) (run-ends b (machineAt l q o (rowState row)) run-accepted .left-in)
+
+    pub run-answer : (row' : List ℤ) → row' ≡ rowOf (machine (core [] (e .m .s)) (e .m .cycles) (consoleOf (e .m .k) [] [])) → called (record { refusal = 0; place = 0; stop = e .stop; detail = e .detail; steps = e .steps }) (lent l' q o' row') ≡ runCall b (lent l q o row)
+    unfolding ran
+    run-answer row' g =
+        ap (λ (x : List ℤ). called (record { refusal = 0; place = 0; stop = e .stop; detail = e .detail; steps = e .steps }) (lent l' q o' x)) (g ∙ row-at l' q o' (e .m))
+        ∙ ap ran (f ∙ ap (M.run b) (state-is l q o row))
+        ∙ sym (call-is b (lent l q o row) h)
+
+pub run-refused : (b : ℕ) (l : Lent) → passes (runCheck l) ≡ false → called (record { refusal = runCheck l .refusal; place = runCheck l .place; stop = 0; detail = 0; steps = 0 }) l ≡ runCall b l
+unfolding runCall runRefused
+run-refused b l h = sym (ap (λ (t : Bool). cond t (ran (M.run b (lentMachine l))) (runRefused (runCheck l) l)) h)
+
+-- ---- raise
+
+-- the step that does nothing but enter
+abbrev pub raising : State → ℕ → Arrival
+raising m code =
+    record { enters = true; stops = false; number = code; detail = 0; s = m .s; at = 4294967295; v = empty; cycles = m .cycles; k = m .k; sends = false; to = 0; byte = 0 }
+
+module _ (l row : List ℤ) (code : ℕ) (d : Decision) (few : cellCount l ≤ 10000) (h : Decides l (rowState row) (raising (rowState row) code) d) where
+  decided-is : decidedOf l [] [] d ≡ M.limit (quietMachine l row) (M.recover code (quietMachine l row))
+  unfolding M.settle machineOf
+  decided-is =
+      h .is [] []
+      ∙ ap (λ (x : List ℤ). M.limit (machineAt l [] [] (rowState row)) (M.recover code (machineAt x [] [] (rowState row)))) (over-out l 4294967295 empty (omega arith))
+
+  raise-is : passes (raiseCheck l row code) ≡ true → raised l row (M.limit (quietMachine l row) (M.recover code (quietMachine l row))) ≡ raise l row code
+  unfolding raise
+  raise-is p =
+      sym (ap (λ (t : Bool). cond t (raised l row (M.limit (quietMachine l row) (M.recover code (quietMachine l row)))) (called (record { refusal = raiseCheck l row code .refusal; place = raiseCheck l row code .place; stop = 0; detail = 0 }) (l, row))) p)
+
+  pub raise-done : passes (raiseCheck l row code) ≡ true → d .completed ≡ true → (l' row' : List ℤ) → l' ≡ decidedAt l [] [] d .core .cells → row' ≡ rowOf (machine (core [] (d .m .s)) (d .m .cycles) (consoleOf (d .m .k) [] [])) → called (record { refusal = 0; place = 0; stop = 0; detail = 0 }) (l', row') ≡ raise l row code
+  unfolding raised rowOf
+  raise-done p c l' row' e f =
+      (λ i. called (record { refusal = 0; place = 0; stop = 0; detail = 0 }) (e i, f i))
+      ∙ ap (λ (b : Bool). raised l row (outcomeAt b (d .stop) (d .detail) (decidedAt l [] [] d))) (sym c)
+      ∙ ap (raised l row) decided-is
+      ∙ raise-is p
+
+  pub raise-stopped : passes (raiseCheck l row code) ≡ true → d .completed ≡ false → called (record { refusal = 0; place = 0; stop = d .stop; detail = d .detail }) (l, row) ≡ raise l row code
+  unfolding raised
+  raise-stopped p c =
+      ap (λ (b : Bool). raised l row (outcomeAt b (d .stop) (d .detail) (decidedAt l [] [] d))) (sym c) ∙ ap (raised l row) decided-is ∙ raise-is p
+
+  -- what a raise that is done leaves fits the row
+  limit-done : (m x : Machine) (o : M.Outcome) → M.completed x ≡ M.limit m o → (M.completed x ≡ o) × (x .cycles < CYCLES-END)
+  unfolding M.limit M.reached
+  limit-done m x o e = go (ltb (M.reached o .cycles) CYCLES-END) refl e
+    where
+      go : (b : Bool) → ltb (M.reached o .cycles) CYCLES-END ≡ b → M.completed x ≡ cond b o (M.stopped 7 0 m) → (M.completed x ≡ o) × (x .cycles < CYCLES-END)
+      go true t f = (f, subst (λ (y : M.Outcome). M.reached y .cycles < CYCLES-END) (sym f) (ltb-true _ _ t))
+      go false t f = let z : _≡_ {A = ℕ} 0 1 = cc in absurd (omega arith)
+
+  recover-done : (m x : Machine) → M.completed x ≡ M.recover code m → x .console ≡ m .console
+  unfolding M.recover M.entered M.reached
+  recover-done m x e = go (M.hasHandler (m .core .cells)) e
+    where
+      go : (b : Bool) → M.completed x ≡ cond b (M.completed (M.entered code m)) (M.stopped 2 code m) → x .console ≡ m .console
+      go true f = ap (λ (y : M.Outcome). M.reached y .console) f
+      go false f = let z : _≡_ {A = ℕ} 0 1 = cc in absurd (omega arith)
+
+  pub raise-fits : d .completed ≡ true → (d .m .cycles < CYCLES-END) × (consoleOf (d .m .k) [] (decidedAt l [] [] d .console .output) ≡ quietMachine l row .console)
+  unfolding M.reached
+  raise-fits c =
+      let e : M.completed (decidedAt l [] [] d) ≡ M.limit (quietMachine l row) (M.recover code (quietMachine l row)) = ap (λ (b : Bool). outcomeAt b (d .stop) (d .detail) (decidedAt l [] [] d)) (sym c) ∙ decided-is in
+      let p = limit-done (quietMachine l row) (decidedAt l [] [] d) (M.recover code (quietMachine l row)) e in
+      (p .1, recover-done (quietMachine l row) (decidedAt l [] [] d) (p .0))
+
+pub raise-refused : (l row : List ℤ) (code : ℕ) → passes (raiseCheck l row code) ≡ false → called (record { refusal = raiseCheck l row code .refusal; place = raiseCheck l row code .place; stop = 0; detail = 0 }) (l, row) ≡ raise l row code
+unfolding raise
+raise-refused l row code h =
+    sym (ap (λ (t : Bool). cond t (raised l row (M.limit (quietMachine l row) (M.recover code (quietMachine l row)))) (called (record { refusal = raiseCheck l row code .refusal; place = raiseCheck l row code .place; stop = 0; detail = 0 }) (l, row))) h)

@@ -1,0 +1,29 @@
+use mathlib.Core.Path.{refl}
+use borrow.Author.Needs.{needs}
+use Rattle.z33.proofs.run.state.Statement.{statement}
+use Rattle.z33.proofs.run.state.Tie as tie
+use Rattle.z33.proofs.run.state.Reads as reads
+use Rattle.z33.proofs.run.state.Lts as lts
+use Rattle.refusals.proofs.row.console_state.Reads as console-state-reads
+use Rattle.refusals.proofs.row.number_at.Reads as number-at-reads
+use Rattle.refusals.proofs.row.registers.Reads as registers-reads
+
+-- src/run.rt:19:12
+registers-requires : tie.Need-registers-requires
+registers-requires c κs = search needs
+
+-- src/run.rt:20:17
+number-at-requires : tie.Need-number-at-requires
+number-at-requires c κs = search needs
+
+-- src/run.rt:21:12
+console-state-requires : tie.Need-console-state-requires
+console-state-requires c κs = search needs
+
+-- src/run.rt:14:1
+returns : tie.Need-returns
+returns c = rw (c .before .before .registers .ensures, c .before .number-at .ensures, c .console-state .ensures)
+
+pub state-spec : {M : Type 1} → statement M
+state-spec =
+    tie.close (tie.spec registers-requires number-at-requires console-state-requires returns)
