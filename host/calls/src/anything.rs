@@ -7,8 +7,7 @@ use crate::accepted;
 use crate::damaged::DAMAGED;
 use crate::trial::{Call, Trial};
 
-const NUMBERS: [u64; 12] =
-    [0, 1, 2, 3, 4, 5, 6, 255, 256, 10_000, 4_294_967_296, 18_446_744_073_709_551_615];
+const NUMBERS: [u64; 12] = [0, 1, 2, 3, 4, 5, 6, 255, 256, 10_000, 4_294_967_296, 18_446_744_073_709_551_615];
 
 /// An accepted trial with some of it drawn anew.
 pub fn draw(rng: &mut Rng, call: Call) -> Trial {

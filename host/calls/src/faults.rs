@@ -16,7 +16,10 @@ pub enum Fault {
     RaggedImage(usize),
     ImagePastEnd(usize),
     /// A damaged cell first or last in the image.
-    DamagedImage { last: bool, cell: [i64; 3] },
+    DamagedImage {
+        last: bool,
+        cell: [i64; 3],
+    },
     Outside(u64),
     Register(u64, i64),
     Code(u64),

@@ -8,7 +8,9 @@ fn main() -> ExitCode {
     let arguments: Vec<&str> = arguments.iter().map(String::as_str).collect();
     let lines = match arguments[..] {
         [list] => calls::all(list, 1),
-        [list, seed] => seed.parse().map_err(|_| format!("{seed} is no number")).and_then(|seed| calls::all(list, seed)),
+        [list, seed] => {
+            seed.parse().map_err(|_| format!("{seed} is no number")).and_then(|seed| calls::all(list, seed))
+        }
         _ => Err("calls LIST [SEED]".into()),
     };
     match lines {

@@ -32,7 +32,9 @@ fn same(cells: &mut [i64], cell: [i64; 3]) -> Result<(), String> {
     let is = [(read.refusal, read.place), (loaded.refusal, loaded.place), (set.refusal, set.place)];
     let held = if sound(cell) { cell } else { [0; 3] };
     if is != due || [read.tag, read.first, read.second] != held {
-        return Err(format!("cell {cell:?}: read, loaded and in a answered {is:?}, due {due:?}; read {read:?}"));
+        return Err(format!(
+            "cell {cell:?}: read, loaded and in a answered {is:?}, due {due:?}; read {read:?}"
+        ));
     }
     Ok(())
 }

@@ -30,7 +30,9 @@ pub fn check(seed: u64) -> Result<String, String> {
     if programs < PROGRAMS || ended == 0 {
         return Err(format!("only {programs} long programs, {ended} that end, in {MOST_DRAWS} draws"));
     }
-    Ok(format!("{steps} steps in {programs} runs on large budgets compared at their end; {ended} ended by themselves"))
+    Ok(format!(
+        "{steps} steps in {programs} runs on large budgets compared at their end; {ended} ended by themselves"
+    ))
 }
 
 /// The plain interpreter's answer, where it takes long enough; it is only asked which draws are worth a run.
@@ -54,7 +56,9 @@ fn same(driver: &mut Driver, case: &Case) -> Result<u64, String> {
         driver.judge.verify()?;
         if answer != due || left(driver) != lent {
             let case = list::case_lines(1, case);
-            return Err(format!("{call:?}: answered {answer:?}, the judge {due:?}, or something is left otherwise\n{case}"));
+            return Err(format!(
+                "{call:?}: answered {answer:?}, the judge {due:?}, or something is left otherwise\n{case}"
+            ));
         }
         steps += due.count;
     }

@@ -7,10 +7,7 @@ use std::ptr::{null, null_mut};
 use crate::answers::{Cell, Done, Drained, Raised, Ran};
 use crate::declared as c;
 
-pub fn fresh<'a>(
-    cells: impl Into<Option<&'a mut [i64]>>,
-    row: impl Into<Option<&'a mut [i64]>>,
-) -> Done {
+pub fn fresh<'a>(cells: impl Into<Option<&'a mut [i64]>>, row: impl Into<Option<&'a mut [i64]>>) -> Done {
     let ((cells, cells_len), (row, row_len)) = (lend(cells), lend(row));
     unsafe { c::z33_fresh(cells, cells_len, row, row_len) }
 }
