@@ -92,10 +92,10 @@ impl Fault {
         }
     }
 
-    /// Contents are changed before lengths.
+    /// What is measured by counts, lengths or the start comes before these are changed.
     fn turn(self) -> usize {
         match self {
-            Fault::TooMany(_) | Fault::Short(_) => 0,
+            Fault::TooMany(_) | Fault::Short(_) | Fault::ImagePastEnd(_) => 0,
             Fault::RowLength(_) | Fault::OutputLength(_) | Fault::QueueLength(_) | Fault::CellsLength(_) => 2,
             _ => 1,
         }

@@ -107,5 +107,5 @@ pub fn code(code: u64) -> Tested {
 
 /// Where a cell's numbers begin, if it is one of the cells.
 fn inside(cells: usize, address: u64) -> Option<usize> {
-    (address < (cells / 3) as u64).then_some(3 * address as usize)
+    (address < (cells / 3) as u64).then(|| 3 * address as usize)
 }
