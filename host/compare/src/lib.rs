@@ -3,16 +3,15 @@
 pub mod coverage;
 pub mod directed;
 pub mod driver;
-pub mod edges;
-pub mod forms;
 pub mod harness;
 pub mod invariants;
 pub mod modes;
 pub mod pairs;
 pub mod programs;
 pub mod record;
-pub mod rng;
 pub mod runner;
 pub mod single;
 pub mod tags;
 pub mod words;
+
+pub use draws::{edges, forms, rng};

@@ -37,11 +37,8 @@ fn check(size: &Size, seed: &str) -> Result<Vec<String>, String> {
     modes::all(&mut Harness::new(&mut plain), size, number(seed)?)
 }
 
-/// Two steps in three are single ones; a program takes about eight hundred.
 fn long(steps: &str, seed: &str) -> Result<Vec<String>, String> {
-    let steps = number(steps)? as usize;
-    let size = Size { singles: steps / 3 * 2, programs: steps / 2_400, pairs: steps / 600 };
-    check(&size, seed)
+    check(&Size::of(number(steps)? as usize), seed)
 }
 
 fn write_list(file: &str) -> Result<Vec<String>, String> {

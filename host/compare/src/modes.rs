@@ -13,6 +13,13 @@ pub struct Size {
     pub pairs: usize,
 }
 
+impl Size {
+    /// About so many steps: two in three are single ones; a program takes about eight hundred.
+    pub fn of(steps: usize) -> Self {
+        Self { singles: steps / 3 * 2, programs: steps / 2_400, pairs: steps / 600 }
+    }
+}
+
 /// About two million steps; a quarter of a minute on the plain interpreter.
 pub const CHECK: Size = Size { singles: 800_000, programs: 1_700, pairs: 4_000 };
 

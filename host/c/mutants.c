@@ -1,0 +1,238 @@
+/* The library broken on purpose. host/mutants renames the functions of a scratch copy of libz33.a to whole_z33_* and puts this
+ * file, compiled with MUTANT, before them; the host must notice each. WHOLE breaks nothing. */
+#include <string.h>
+
+#include "z33.h"
+
+enum {
+    WHOLE,
+    PLACE_OF_DAMAGE,          /* run: a damaged cell's place is one too high */
+    PLACE_OF_ROW,             /* set register: sp out of range is told as pc */
+    QUEUE_BEFORE_CELLS,       /* run: two checks in the wrong order */
+    CODE_BEFORE_ROW,          /* raise: two checks in the wrong order */
+    WRITE_BEFORE_REFUSAL,     /* deliver: the first byte is written before the rest is refused */
+    ROW_BEFORE_REFUSAL,       /* run: the pending mark is cleared though a cell is damaged */
+    LEAST_CELLS,              /* run: 256 cells are refused */
+    MOST_CELLS,               /* fresh: 10,001 cells are taken */
+    MOST_QUEUE,               /* deliver: a queue of 4,096 is refused */
+    LAST_FREE_PLACE,          /* deliver: the last free place is not used */
+    DRAIN_CLEARS,             /* drain: the rest of the buffer is cleared */
+    DRAIN_KEEPS_COUNT,        /* drain: the count is not set to 0 */
+    DRAIN_PAST_END,           /* drain: a byte behind the buffer is written */
+    NO_WRAP,                  /* deliver: bytes past the queue's end are dropped */
+    NO_MARK,                  /* deliver: the pending mark is not set */
+    DAMAGED_IMAGE,            /* load: a damaged image is taken */
+    EMPTY_IMAGE_AT_END,       /* load: an empty image is taken behind the last cell */
+    DAMAGED_CELL,             /* read: a damaged cell is given */
+    SET_SR,                   /* set register: sr may be set */
+    CUT_REGISTER,             /* set register: only 8 bits of the register count */
+    CUT_CODE,                 /* raise: only 32 bits of the code count */
+    CUT_ADDRESS,              /* read: only 32 bits of the address count */
+    CUT_LENGTH,               /* set register: only 32 bits of the row's length count */
+    BUDGET_LESS_ONE,          /* run: one step too few */
+    NO_STEP,                  /* run: stop 0 before any step */
+    STEPS_NEVER_TAKEN,        /* run: the steps are told, the machine is unmoved */
+    FIRST_THEN_COUNTS,        /* run: one step, and the rest are only counted */
+    ALWAYS_RESET,             /* run: every answer is reset */
+    REFUSES_ALL,              /* run: every machine is refused */
+    COUNTS_STOPPED,           /* run: the step that stops is counted */
+    NO_CYCLES,                /* run: cycles are not added */
+    DETAIL_OF_STOP_5,         /* run: stop 5 without its register */
+    POLL_AFTER_EXCEPTION,     /* run: an exception step polls */
+    MARK_WITH_I_CLEAR,        /* run: the pending mark is taken with I clear */
+    SP_UNDONE,                /* run: a stop 5 puts sp back */
+    RAISE_NO_CYCLE,           /* raise: no cycle is added */
+    RAISE_KEEPS_I             /* raise: code 0 leaves I set */
+};
+
+enum { PC = 6, SP = 7, SR = 8, CYCLES = 9, ENABLE = 10, PENDING = 12, START = 13, COUNT = 14, WRITTEN = 15, ROW = 16 };
+enum { I = 256, HANDLER = 200 };
+
+z33_done whole_z33_fresh(int64_t *, size_t, int64_t *, size_t);
+z33_ran whole_z33_run(int64_t *, size_t, uint8_t *, size_t, uint8_t *, size_t, int64_t *, size_t, uint32_t);
+z33_done whole_z33_deliver(uint8_t *, size_t, int64_t *, size_t, const uint8_t *, size_t);
+z33_drained whole_z33_drain(const uint8_t *, size_t, int64_t *, size_t, uint8_t *, size_t);
+z33_cell whole_z33_read_cell(const int64_t *, size_t, uint64_t);
+z33_done whole_z33_load(int64_t *, size_t, const int64_t *, size_t, uint64_t);
+z33_done whole_z33_set_register(int64_t *, size_t, uint64_t, int64_t);
+z33_raised whole_z33_raise(int64_t *, size_t, int64_t *, size_t, uint64_t);
+
+z33_done z33_fresh(int64_t *cells, size_t cells_len, int64_t *row, size_t row_len) {
+    if (MUTANT == MOST_CELLS && cells_len == 30003) {
+        cells_len = 30000;
+    }
+    return whole_z33_fresh(cells, cells_len, row, row_len);
+}
+
+/* A budget or a refusal given instead of the caller's own. */
+static int answered_before(z33_ran *ran, size_t cells_len, size_t queue_len) {
+    *ran = (z33_ran){0};
+    if (MUTANT == QUEUE_BEFORE_CELLS && (queue_len == 0 || queue_len > 4096)) {
+        ran->refusal = 2;
+    } else if (MUTANT == REFUSES_ALL || (MUTANT == LEAST_CELLS && cells_len == 768)) {
+        ran->refusal = 1;
+    }
+    return ran->refusal != 0;
+}
+
+static uint32_t other_budget(uint32_t budget) {
+    switch (MUTANT) {
+    case BUDGET_LESS_ONE: return budget > 0 ? budget - 1 : 0;
+    case NO_STEP: case STEPS_NEVER_TAKEN: return 0;
+    case FIRST_THEN_COUNTS: return budget > 0 ? 1 : 0;
+    default: return budget;
+    }
+}
+
+/* The machine after one step that was taken, changed. */
+static void step_after(int64_t *cells, size_t cells_len, int64_t *row, z33_ran *ran) {
+    int entered = ran->steps == 1 && row[PC] == HANDLER && cells[3 * 102 + 1] != 0;
+    if (MUTANT == POLL_AFTER_EXCEPTION && entered && (row[SR] & I) && row[PENDING]) {
+        row[PENDING] = 0;
+        whole_z33_raise(cells, cells_len, row, ROW, 0);
+    }
+    if (MUTANT == MARK_WITH_I_CLEAR && ran->steps == 1 && !(row[SR] & I)) {
+        row[PENDING] = 0;
+    }
+}
+
+z33_ran z33_run(int64_t *cells, size_t cells_len, uint8_t *queue, size_t queue_len,
+                uint8_t *output, size_t output_len, int64_t *row, size_t row_len, uint32_t budget) {
+    z33_ran ran;
+    if (answered_before(&ran, cells_len, queue_len)) {
+        return ran;
+    }
+    int64_t before[ROW] = {0};
+    if (row_len == ROW) {
+        memcpy(before, row, sizeof before);
+    }
+    ran = whole_z33_run(cells, cells_len, queue, queue_len, output, output_len, row, row_len, other_budget(budget));
+    if (ran.refusal != 0) {
+        ran.place += MUTANT == PLACE_OF_DAMAGE && ran.refusal == 5;
+        if (MUTANT == ROW_BEFORE_REFUSAL && ran.refusal == 5) {
+            row[PENDING] = 0;
+        }
+        return ran;
+    }
+    step_after(cells, cells_len, row, &ran);
+    switch (MUTANT) {
+    case NO_CYCLES: row[CYCLES] = before[CYCLES]; break;
+    case DETAIL_OF_STOP_5: if (ran.stop == 5) ran.detail = 0; break;
+    case SP_UNDONE: if (ran.stop == 5 && budget == 1) row[SP] = before[SP]; break;
+    case ALWAYS_RESET: ran.stop = 1; break;
+    case COUNTS_STOPPED: ran.steps += ran.stop != 0; break;
+    case STEPS_NEVER_TAKEN: ran.steps = budget; break;
+    case FIRST_THEN_COUNTS: if (ran.stop == 0) ran.steps = budget; break;
+    default: break;
+    }
+    return ran;
+}
+
+z33_done z33_deliver(uint8_t *queue, size_t queue_len, int64_t *row, size_t row_len, const uint8_t *bytes, size_t bytes_len) {
+    if (MUTANT == MOST_QUEUE && queue_len == 4096) {
+        return (z33_done){2, 0};
+    }
+    uint8_t before[4096];
+    size_t kept = queue_len <= sizeof before ? queue_len : 0;
+    if (kept > 0) {
+        memcpy(before, queue, kept);
+    }
+    int64_t pending = row_len == ROW ? row[PENDING] : 0;
+    z33_done done = whole_z33_deliver(queue, queue_len, row, row_len, bytes, bytes_len);
+    if (MUTANT == WRITE_BEFORE_REFUSAL && done.refusal == 6 && (size_t)row[COUNT] < queue_len) {
+        queue[(size_t)(row[START] + row[COUNT]) % queue_len] = bytes[0];
+    }
+    if (done.refusal != 0) {
+        return done;
+    }
+    size_t end = (size_t)(row[START] + row[COUNT]);
+    size_t first = end - bytes_len;
+    if (MUTANT == NO_WRAP && first < queue_len && end > queue_len) {
+        memcpy(queue, before, end - queue_len);
+    }
+    if (MUTANT == NO_MARK) {
+        row[PENDING] = pending;
+    }
+    if (MUTANT == LAST_FREE_PLACE && bytes_len > 0 && (size_t)row[COUNT] == queue_len) {
+        memcpy(queue, before, queue_len);
+        row[COUNT] -= (int64_t)bytes_len;
+        return (z33_done){6, 0};
+    }
+    return done;
+}
+
+z33_drained z33_drain(const uint8_t *output, size_t output_len, int64_t *row, size_t row_len, uint8_t *buffer, size_t buffer_len) {
+    z33_drained drained = whole_z33_drain(output, output_len, row, row_len, buffer, buffer_len);
+    if (drained.refusal != 0) {
+        return drained;
+    }
+    if (MUTANT == DRAIN_CLEARS && buffer_len > drained.count && buffer_len < 1 << 20) {
+        memset(buffer + drained.count, 0, buffer_len - drained.count);
+    }
+    if (MUTANT == DRAIN_KEEPS_COUNT) {
+        row[WRITTEN] = (int64_t)drained.count;
+    }
+    if (MUTANT == DRAIN_PAST_END && buffer_len > 0 && drained.count == buffer_len) {
+        buffer[buffer_len] ^= 1;
+    }
+    return drained;
+}
+
+z33_cell z33_read_cell(const int64_t *cells, size_t cells_len, uint64_t address) {
+    if (MUTANT == CUT_ADDRESS) {
+        address = (uint32_t)address;
+    }
+    z33_cell cell = whole_z33_read_cell(cells, cells_len, address);
+    if (MUTANT == DAMAGED_CELL && cell.refusal == 5) {
+        const int64_t *at = cells + 3 * address;
+        cell = (z33_cell){0, 0, at[0], at[1], at[2]};
+    }
+    return cell;
+}
+
+z33_done z33_load(int64_t *cells, size_t cells_len, const int64_t *image, size_t image_len, uint64_t start) {
+    z33_done done = whole_z33_load(cells, cells_len, image, image_len, start);
+    if (MUTANT == EMPTY_IMAGE_AT_END && done.refusal == 8 && image_len == 0 && start == cells_len / 3) {
+        return (z33_done){0, 0};
+    }
+    if (MUTANT == DAMAGED_IMAGE && done.refusal == 9 && image_len % 3 == 0 && image_len <= cells_len - 3 * start) {
+        memcpy(cells + 3 * start, image, image_len * sizeof *image);
+        return (z33_done){0, 0};
+    }
+    return done;
+}
+
+z33_done z33_set_register(int64_t *row, size_t row_len, uint64_t reg, int64_t word) {
+    if (MUTANT == CUT_REGISTER) {
+        reg = (uint8_t)reg;
+    }
+    if (MUTANT == CUT_LENGTH) {
+        row_len = (uint32_t)row_len;
+    }
+    z33_done done = whole_z33_set_register(row, row_len, reg, word);
+    if (MUTANT == PLACE_OF_ROW && done.refusal == 4 && done.place == 8) {
+        done.place = 7;
+    }
+    if (MUTANT == SET_SR && done.refusal == 10 && reg == 4) {
+        row[SR] = word;
+        done.refusal = 0;
+    }
+    return done;
+}
+
+z33_raised z33_raise(int64_t *cells, size_t cells_len, int64_t *row, size_t row_len, uint64_t code) {
+    if (MUTANT == CUT_CODE) {
+        code = (uint32_t)code;
+    }
+    z33_raised raised = whole_z33_raise(cells, cells_len, row, row_len, code);
+    if (MUTANT == CODE_BEFORE_ROW && raised.refusal == 4 && code > 5) {
+        return (z33_raised){11, 0, 0, 0};
+    }
+    if (raised.refusal == 0 && raised.stop == 0) {
+        row[CYCLES] -= MUTANT == RAISE_NO_CYCLE;
+        if (MUTANT == RAISE_KEEPS_I && code == 0) {
+            row[SR] |= cells[3 * 101 + 1] & I;
+        }
+    }
+    return raised;
+}

@@ -1,0 +1,119 @@
+//! Which refusals, with which places, which pairs of faults and which empty buffers were reached.
+
+use std::collections::{BTreeMap, BTreeSet};
+
+use crate::faults::together;
+use crate::refusals::MOST_CELLS;
+use crate::trial::{Answer, Buffer, CALLS, Call, Trial};
+
+type Refusal = (u64, u64);
+
+/// The row's places that can be out of range.
+const ROW_PLACES: [u64; 12] = [0, 1, 4, 7, 8, 10, 11, 12, 13, 14, 15, 16];
+
+#[derive(Default)]
+pub struct Coverage {
+    pub trials: u64,
+    refused: BTreeMap<(Call, Refusal), u64>,
+    /// Done, by the stop where there is one.
+    done: BTreeMap<(Call, i64), u64>,
+    pairs: BTreeSet<(Call, Refusal, Refusal)>,
+    /// An empty buffer, null or not.
+    empty: BTreeSet<(Call, Buffer, bool)>,
+}
+
+impl Coverage {
+    pub fn count(&mut self, trial: &Trial, answer: &Answer) {
+        self.trials += 1;
+        let call = trial.call;
+        if answer.refusal > 0 {
+            *self.refused.entry((call, (answer.refusal, answer.place))).or_default() += 1;
+        } else {
+            let stop = if matches!(call, Call::Run | Call::Raise) { answer.rest[0] } else { 0 };
+            *self.done.entry((call, stop)).or_default() += 1;
+        }
+        for buffer in call.lends() {
+            if trial.length(*buffer) == 0 {
+                self.empty.insert((call, *buffer, trial.null));
+            }
+        }
+    }
+
+    pub fn count_pair(&mut self, call: Call, one: Refusal, two: Refusal) {
+        self.pairs.insert((call, one.min(two), one.max(two)));
+    }
+
+    /// What it came to, or what was not reached.
+    pub fn complete(&self) -> Result<String, String> {
+        let mut missing = Vec::new();
+        let mut reached = [0; 4];
+        let mut need = |column: usize, there: bool, what: String| {
+            reached[column] += 1;
+            if !there {
+                missing.push(what);
+            }
+        };
+        for call in CALLS {
+            for refusal in all_refusals(call) {
+                let there = self.refused.contains_key(&(call, refusal));
+                need(0, there, format!("{call:?} refused {refusal:?}"));
+            }
+            for (one, two) in all_pairs(call) {
+                let there = self.pairs.contains(&(call, one, two));
+                need(1, there, format!("{call:?} with both {one:?} and {two:?}"));
+            }
+            for stop in all_stops(call) {
+                need(2, self.done.contains_key(&(call, *stop)), format!("{call:?} done, stop {stop}"));
+            }
+            for buffer in call.lends() {
+                for null in [false, true] {
+                    let there = self.empty.contains(&(call, *buffer, null));
+                    need(3, there, format!("{call:?} with {buffer:?} empty, null {null}"));
+                }
+            }
+        }
+        if !missing.is_empty() {
+            return Err(format!("{} not reached: {}", missing.len(), missing.join("; ")));
+        }
+        let [refusals, pairs, stops, empty] = reached;
+        Ok(format!(
+            "{} calls on any lengths and contents as the model has them: {refusals} refusals by call and place, \
+             {pairs} pairs of faults in checking order, {stops} ways to be done, {empty} empty buffers (null or not)",
+            self.trials
+        ))
+    }
+}
+
+/// Every number and place; a damaged cell at every address of the largest machine.
+fn all_refusals(call: Call) -> Vec<Refusal> {
+    let each = |number: &u64| match (number, call) {
+        (4, Call::Fresh) => vec![(4, 0)],
+        (4, _) => ROW_PLACES.map(|place| (4, place)).to_vec(),
+        (5, _) => (0..MOST_CELLS as u64).map(|address| (5, address)).collect(),
+        (number, _) => vec![(*number, 0)],
+    };
+    call.refusals().iter().flat_map(each).collect()
+}
+
+/// Two different refusals that one trial can deserve; a damaged cell counts without its address.
+pub fn all_pairs(call: Call) -> Vec<(Refusal, Refusal)> {
+    let mut classes = all_refusals(call);
+    classes.retain(|(number, place)| *number != 5 || *place == 0);
+    let mut pairs = Vec::new();
+    for (i, one) in classes.iter().enumerate() {
+        for two in &classes[i + 1..] {
+            if together(call, *one, *two) {
+                pairs.push((*one, *two));
+            }
+        }
+    }
+    pairs
+}
+
+fn all_stops(call: Call) -> &'static [i64] {
+    match call {
+        Call::Run => &[0, 1, 2, 3, 4, 5, 6, 7],
+        Call::Raise => &[0, 2, 7],
+        _ => &[0],
+    }
+}

@@ -1,0 +1,76 @@
+//! Runs on large budgets: judge and library each take the whole budget at once and are compared at its end.
+
+use compare::driver::Driver;
+use compare::programs;
+use compare::rng::Rng;
+use list::{Answer, Call, Case, Lent, Machine, Plain};
+use z33::Library;
+
+/// A program is long that takes so many steps; most draws stop before.
+const LONG: u64 = 20_000;
+const MOST: u32 = 300_000;
+const PROGRAMS: usize = 60;
+const MOST_DRAWS: usize = 200_000;
+
+/// A line on what was compared, or the first difference.
+pub fn check(seed: u64) -> Result<String, String> {
+    let (mut rng, mut driver) = (Rng::new(seed), Driver::default());
+    let (mut programs, mut steps, mut ended) = (0, 0, 0);
+    for _ in 0..MOST_DRAWS {
+        let mut case = programs::draw(&mut rng);
+        if programs == PROGRAMS {
+            break;
+        }
+        let Some(answer) = long_on_plain(&case) else { continue };
+        case.calls = vec![Call::Run(budget(&mut rng, &answer)), Call::Run(0)];
+        steps += same(&mut driver, &case)?;
+        programs += 1;
+        ended += usize::from(answer.stop > 0);
+    }
+    if programs < PROGRAMS || ended == 0 {
+        return Err(format!("only {programs} long programs, {ended} that end, in {MOST_DRAWS} draws"));
+    }
+    Ok(format!(
+        "{steps} steps in {programs} runs on large budgets compared at their end; {ended} ended by themselves"
+    ))
+}
+
+/// The plain interpreter's answer, where it takes long enough; it is only asked which draws are worth a run.
+fn long_on_plain(case: &Case) -> Option<Answer> {
+    let answer = Plain.run(&mut case.lent(), MOST);
+    (answer.count >= LONG).then_some(answer)
+}
+
+/// A run that ends by itself is given the largest budget there is.
+fn budget(rng: &mut Rng, answer: &Answer) -> u32 {
+    if answer.stop > 0 { u32::MAX } else { rng.between(LONG as i64, MOST.into()) as u32 }
+}
+
+/// The count of steps that both took.
+fn same(driver: &mut Driver, case: &Case) -> Result<u64, String> {
+    driver.start(case);
+    let (mut lent, mut steps) = (case.lent(), 0);
+    for call in &case.calls {
+        let (answer, _) = call.make(&mut Library, &mut lent);
+        let (due, _) = driver.call(call);
+        driver.judge.verify()?;
+        if answer != due || left(driver) != lent {
+            let case = list::case_lines(1, case);
+            return Err(format!(
+                "{call:?}: answered {answer:?}, the judge {due:?}, or something is left otherwise\n{case}"
+            ));
+        }
+        steps += due.count;
+    }
+    Ok(steps)
+}
+
+fn left(driver: &Driver) -> Lent {
+    let judge = &driver.judge;
+    Lent {
+        cells: judge.cells().to_vec(),
+        queue: judge.queue().to_vec(),
+        output: judge.output().to_vec(),
+        row: *judge.row(),
+    }
+}

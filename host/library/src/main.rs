@@ -1,0 +1,47 @@
+//! `library check LIST [SEED]`: the library in every mode of the judge, with complete coverage, then the recorded list
+//! and the model of the calls.
+//! `library long STEPS [SEED]`: about so many steps more against the judge.
+
+use std::env;
+use std::process::ExitCode;
+
+use compare::modes::Size;
+use library::CHECK;
+
+fn main() -> ExitCode {
+    let arguments: Vec<String> = env::args().skip(1).collect();
+    let arguments: Vec<&str> = arguments.iter().map(String::as_str).collect();
+    let lines = match arguments[..] {
+        ["check", list] => check(list, "1"),
+        ["check", list, seed] => check(list, seed),
+        ["long", steps] => long(steps, "1000"),
+        ["long", steps, seed] => long(steps, seed),
+        _ => Err("library check LIST [SEED] | long STEPS [SEED]".into()),
+    };
+    match lines {
+        Ok(lines) => {
+            println!("{}", lines.join("\n"));
+            ExitCode::SUCCESS
+        }
+        Err(why) => {
+            println!("library: {why}");
+            ExitCode::FAILURE
+        }
+    }
+}
+
+/// The short parts first: what they notice is told at once.
+fn check(list: &str, seed: &str) -> Result<Vec<String>, String> {
+    let seed = number(seed)?;
+    let mut lines = calls::all(list, seed)?;
+    lines.extend(library::compared(&CHECK, seed)?);
+    Ok(lines)
+}
+
+fn long(steps: &str, seed: &str) -> Result<Vec<String>, String> {
+    library::compared(&Size::of(number(steps)? as usize), number(seed)?)
+}
+
+fn number(text: &str) -> Result<u64, String> {
+    text.parse().map_err(|_| format!("{text} is no number"))
+}
