@@ -18,6 +18,7 @@ use Rattle.definition.specs.Runtime.{Machine, machine, Executed, Run}
 use Rattle.definition.proofs.Row.{AcceptedMachine}
 use Rattle.definition.proofs.Accepted.{OutcomeHas, step-accepted}
 use Rattle.memory.specs.Overlay.{overlay}
+use Rattle.memory.proofs.Laws.{over-none}
 use Rattle.registers.specs.Answer.{result, settled}
 use Rattle.encoding.specs.Instr.{instrOf}
 use Rattle.console.specs.declared.ConsoleState.{ConsoleState}
@@ -28,7 +29,6 @@ use Rattle.runtime.specs.declared.perform.Served.{Served}
 use Rattle.runtime.specs.declared.arrive.Arrival.{Arrival}
 use Rattle.runtime.specs.declared.decide.Decision.{Decision}
 use Rattle.runtime.specs.Meaning.{machineAt, fetchedRes, Fetches, sent, saves, performedRes, kept, attempted, executedAt, Serves, turnOf, Concludes, outcomeAt, decidedAt, decidedOf, Decides}
-use Rattle.runtime.proofs.Laws.{over-out}
 use Rattle.computer.specs.declared.Tried.{Tried}
 use Rattle.computer.specs.Meaning.{Ready, Attempts, Arrives}
 
@@ -73,7 +73,7 @@ module _ (l : List ℤ) (s : Registers) (f : Fetched) (h : Fetches l s f) where
   attempts-err few q size k e =
       record {
         is = λ o t c n.
-            ap (λ (x : List ℤ). M.conclude 0 n (consoleOf k q o) (err (f .error) (core x (f .s)))) (over-out l 4294967295 empty (omega arith))
+            ap (λ (x : List ℤ). M.conclude 0 n (consoleOf k q o) (err (f .error) (core x (f .s)))) (over-none l 4294967295 empty (omega arith))
             ∙ ap (λ (x : Res Executed). M.afterAttempt (machine c n (consoleOf k q o)) x) (attempt-err e);
         room = λ _ t. absurd (true≢false (sym t));
         cheap = omega arith;
@@ -87,7 +87,7 @@ module _ (l : List ℤ) (q : List ℕ) (size : ℕ) (m : State) (w : Tried) (h :
   arrives-full few e =
       record {
         is = λ o t.
-            ap (λ (x : List ℤ). M.stops 6 0 (machine (core x (m .s)) (m .cycles) (consoleOf (m .k) q o))) (over-out l 4294967295 empty (omega arith))
+            ap (λ (x : List ℤ). M.stops 6 0 (machine (core x (m .s)) (m .cycles) (consoleOf (m .k) q o))) (over-none l 4294967295 empty (omega arith))
             ∙ sym (ap (λ (b : Bool). cond b (M.stops 6 0 (machineAt l q o m)) (M.conclude (w .cost) (m .cycles) (consoleOf (w .served .e .k) q (sent (w .served .e .sends) (w .served .e .to) (w .served .e .byte) o)) (performedRes l (w .served .e)))) e)
             ∙ h .is o t (core l (m .s)) (m .cycles);
         room = λ t. absurd (true≢false (sym t));

@@ -249,11 +249,11 @@ load cells image start =
     cond (passes (loadCheck cells image start)) (called accepted (loaded start image cells)) (called (loadCheck cells image start) cells)
 
 -- "10. The register is not a, b, pc or sp, or pc or sp would be no address."
-unfoldable pub registerFits : ℕ → ℤ → Bool
-registerFits r w = ltb r 2 || (ltb r 4 && isAddress (addressOf w))
+unfoldable pub isSettable : ℕ → ℤ → Bool
+isSettable r w = ltb r 2 || (ltb r 4 && isAddress (addressOf w))
 
 unfoldable pub setRegisterCheck : List ℤ → ℕ → ℤ → Done
-setRegisterCheck row r w = verdict (rowTests QUEUE-MOST OUTPUT-MOST row ++ test 10 0 (registerFits r w) ∷ [])
+setRegisterCheck row r w = verdict (rowTests QUEUE-MOST OUTPUT-MOST row ++ test 10 0 (isSettable r w) ∷ [])
 
 abbrev pub putCellOfRow : ℕ → Cell → List ℤ → List ℤ
 putCellOfRow i v row = put (i + 2) (v .second) (put (i + 1) (v .first) (put i (v .tag) row))

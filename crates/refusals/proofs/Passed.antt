@@ -10,7 +10,7 @@ use lib.ListN.{length}
 use borrow.Author.Tests.{ltb-true, leb-true, eqb-true}
 use Rattle.definition.specs.Memory.{cellCount, cellAt}
 use Rattle.definition.specs.Encoding.{sound}
-use Rattle.definition.specs.Calls.{Test, test, verdict, passes, cellsTest, queueTest, outputTest, lengthTest, rowTests, damageTest, lowestDamaged, numberOfRow, Lent, freshCheck, runCheck, deliverCheck, drainCheck, readCheck, loadCheck, setRegisterCheck, raiseCheck, registerFits}
+use Rattle.definition.specs.Calls.{Test, test, verdict, passes, cellsTest, queueTest, outputTest, lengthTest, rowTests, damageTest, lowestDamaged, numberOfRow, Lent, freshCheck, runCheck, deliverCheck, drainCheck, readCheck, loadCheck, setRegisterCheck, raiseCheck, isSettable}
 use Rattle.encoding.proofs.Rule.{both}
 use Rattle.refusals.specs.Row.{RowFits}
 use Rattle.refusals.proofs.Verdict.{row-then, row-fits, cells-lengths, queue-lengths, output-length}
@@ -119,7 +119,7 @@ load-passed cells image start h =
 
 pub set-register-passed : (row : List ℤ) (r : ℕ) (w : ℤ) → passes (setRegisterCheck row r w) ≡ true → RowFits 4096 65536 row
 unfolding setRegisterCheck
-set-register-passed row r w h = row-of 4096 65536 row (test 10 0 (registerFits r w) ∷ []) h .0
+set-register-passed row r w h = row-of 4096 65536 row (test 10 0 (isSettable r w) ∷ []) h .0
 
 pub record RaisePassed (cells row : List ℤ) (code : ℕ) : Type 0 where
   pub cells-fit : CellsFit cells

@@ -12,7 +12,7 @@ ghost use lib.Dec.{leb, eqb};
 ghost use Rattle.definition.specs.Word.{addressOf};
 ghost use Rattle.definition.specs.Memory.{cell, cellAt, cellCount};
 ghost use Rattle.definition.specs.Encoding.{sound, isAddress};
-ghost use Rattle.definition.specs.Calls.{verdict, accepted, lent, freshCheck, runCheck, deliverCheck, drainCheck, readCheck, loadCheck, setRegisterCheck, raiseCheck, registerFits, isBelow, isMark, cellsTest, queueTest, outputTest, rowTests, damageTest, lowestDamaged};
+ghost use Rattle.definition.specs.Calls.{verdict, accepted, lent, freshCheck, runCheck, deliverCheck, drainCheck, readCheck, loadCheck, setRegisterCheck, raiseCheck, isSettable, isBelow, isMark, cellsTest, queueTest, outputTest, rowTests, damageTest, lowestDamaged};
 ghost use Rattle.encoding.specs.Table.{costTable};
 ghost use Rattle.refusals.specs.Refusals.{refused};
 
@@ -309,7 +309,7 @@ pub fn load_check(costs: &[u8; 1188], cells: &[i64], image: &[i64], start: u64) 
 
 // "10. The register is not a, b, pc or sp, or pc or sp would be no address."
 pub fn register_fits(r: u64, w: i64) -> bool
-    ensures { λ b. ⌜ b ≡ registerFits r w ⌝ }
+    ensures { λ b. ⌜ b ≡ isSettable r w ⌝ }
 {
     (r < 2) | ((r < 4) & encoding::is_address(w))
 }

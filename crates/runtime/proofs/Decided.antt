@@ -23,7 +23,7 @@ use Rattle.runtime.specs.declared.arrive.Performed.{Performed}
 use Rattle.runtime.specs.declared.arrive.Arrival.{Arrival}
 use Rattle.runtime.specs.declared.decide.Decision.{Decision}
 use Rattle.runtime.specs.Meaning.{machineAt, endingOf, arrivedAt, turnAt, turnOf, Concludes, decidedAt, decidedOf, Decides}
-use Rattle.runtime.proofs.Laws.{over-out}
+use Rattle.memory.proofs.Laws.{over-none}
 
 -- ---- conclude
 
@@ -78,7 +78,7 @@ module _ (l : List ℤ) (m : State) (a : Arrival) where
   -- stop 7 writes nothing
   full-at : cellCount l ≤ 10000 → (q o : List ℕ) → decidedOf l q o (full m) ≡ M.stopped CYCLES-FULL 0 (machineAt l q o m)
   full-at h q o =
-      ap (λ (x : List ℤ). M.stopped CYCLES-FULL 0 (machineAt x q o m)) (over-out l 4294967295 (cell (pos 0) (pos 0) (pos 0)) (omega arith))
+      ap (λ (x : List ℤ). M.stopped CYCLES-FULL 0 (machineAt x q o m)) (over-none l 4294967295 (cell (pos 0) (pos 0) (pos 0)) (omega arith))
 
   pub decides-full : cellCount l ≤ 10000 → a .enters ≡ false → CYCLES-END ≤ a .cycles → Decides l m a (full m)
   unfolding M.settle M.reached

@@ -13,7 +13,7 @@ use Rattle.definition.specs.declared.Registers.{Registers}
 use Rattle.definition.specs.declared.Error.the-variants.{InvalidMemoryAccess}
 use Rattle.definition.specs.Registers.{with-pc}
 use Rattle.definition.specs.Computer.{core, andThen, orCell, ok, err}
-use Rattle.memory.proofs.Laws.{get-in, get-out}
+use Rattle.memory.proofs.Laws.{get-in, get-out, over-in}
 use Rattle.definition.specs.Memory.{cellCount, cellAt, putCell, isInstruction}
 use Rattle.definition.specs.Encoding.{Extracted, instruction, noInstruction, decode, instructionAt, extractInstruction, sound, soundAt, legal, cost}
 use Rattle.definition.specs.Arguments.{modeCost}
@@ -23,15 +23,7 @@ use Rattle.definition.proofs.AcceptedCore.{cell-same, cell-other}
 use Rattle.encoding.proofs.Sound.{far}
 use Rattle.memory.specs.Overlay.{overlay}
 
--- ---- the write that waits
-
-pub over-in : (l : List ℤ) (n : ℕ) (v : Cell) → n < cellCount l → overlay n v l ≡ putCell l n v
-unfolding overlay
-over-in l n v h = rw (lt-ltb n (cellCount l) h)
-
-pub over-out : (l : List ℤ) (n : ℕ) (v : Cell) → cellCount l ≤ n → overlay n v l ≡ l
-unfolding overlay
-over-out l n v h = rw (le-ltb n (cellCount l) h)
+-- ---- the handler after the write that waits
 
 pub handler-there : (l : List ℤ) (n : ℕ) (v : Cell) → n ≡ 200 → 256 ≤ cellCount l → isInstruction v ≡ hasHandler (overlay n v l)
 unfolding hasHandler

@@ -32,7 +32,7 @@ use Rattle.console.specs.State.{consoleOf, Sends}
 use Rattle.runtime.specs.declared.arrive.Performed.{Performed}
 use Rattle.runtime.specs.declared.perform.Served.{Served}
 use Rattle.runtime.specs.Meaning.{sent, performedRes, kept, keptMade, attempted, executedAt, servedTurn, Serves}
-use Rattle.runtime.proofs.Laws.{over-out}
+use Rattle.memory.proofs.Laws.{over-none}
 
 abbrev done : Performed → Served
 done e = record { full = false; e = e }
@@ -64,7 +64,7 @@ after-result c n k cost false e d = refl
 module _ (l : List ℤ) (q : List ℕ) (size : ℕ) (s : Registers) (k : ConsoleState) (i : Instr) where
   -- no cell waits
   none-waits : cellCount l ≤ 10000 → overlay 4294967295 empty l ≡ l
-  none-waits h = over-out l 4294967295 empty (omega arith)
+  none-waits h = over-none l 4294967295 empty (omega arith)
 
   pub serves-kept : cellCount l ≤ 10000 → (p : Put) → answer nothing l p ≡ executedAt l s i → Serves l q size s k i (done (kept p k))
   serves-kept h p e =

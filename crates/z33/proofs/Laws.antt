@@ -26,7 +26,6 @@ use Rattle.runtime.specs.declared.State.{State}
 use Rattle.runtime.specs.declared.arrive.Arrival.{Arrival}
 use Rattle.runtime.specs.declared.decide.Decision.{Decision}
 use Rattle.runtime.specs.Meaning.{machineAt, outcomeAt, decidedAt, decidedOf, Decides}
-use Rattle.runtime.proofs.Laws.{over-out}
 use Rattle.computer.specs.declared.Ended.{Ended}
 use Rattle.computer.specs.Meaning.{endedOf}
 use Rattle.z33.specs.Meaning.{rowState}
@@ -73,7 +72,7 @@ module _ (l row : List ℤ) (code : ℕ) (d : Decision) (few : cellCount l ≤ 1
   unfolding M.settle machineOf
   decided-is =
       h .is [] []
-      ∙ ap (λ (x : List ℤ). M.limit (machineAt l [] [] (rowState row)) (M.recover code (machineAt x [] [] (rowState row)))) (over-out l 4294967295 empty (omega arith))
+      ∙ ap (λ (x : List ℤ). M.limit (machineAt l [] [] (rowState row)) (M.recover code (machineAt x [] [] (rowState row)))) (over-none l 4294967295 empty (omega arith))
 
   raise-is : passes (raiseCheck l row code) ≡ true → raised l row (M.limit (quietMachine l row) (M.recover code (quietMachine l row))) ≡ raise l row code
   unfolding raise

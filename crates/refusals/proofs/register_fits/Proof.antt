@@ -1,7 +1,7 @@
 -- `refusals::register_fits` meets its contract.
 use mir.Facts.{toZ-ofZ}
 use borrow.Author.Needs.{needs}
-use Rattle.definition.specs.Calls.{registerFits}
+use Rattle.definition.specs.Calls.{isSettable}
 use Rattle.refusals.proofs.register_fits.Statement.{statement}
 use Rattle.refusals.proofs.register_fits.Tie as tie
 
@@ -9,7 +9,7 @@ is-address-requires : tie.Need-is-address-requires
 is-address-requires c κs = search needs
 
 returns : tie.Need-returns
-unfolding registerFits
+unfolding isSettable
 returns c = cc (toZ-ofZ (c .before .fits .w))
 
 pub register-fits-spec : {M : Type 1} → statement M

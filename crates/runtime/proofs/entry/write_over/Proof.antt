@@ -1,5 +1,5 @@
 use mathlib.Core.Path.{_∙_, sym}
-use Rattle.runtime.proofs.Laws.{over-in, over-out}
+use Rattle.memory.proofs.Laws.{over-in, over-none}
 use native.Mathlib.Omega.{arith}
 use borrow.Author.Needs.{needs}
 use Rattle.runtime.proofs.entry.write_over.Statement.{statement}
@@ -22,7 +22,7 @@ returns c = c .before .put-cell .ensures ∙ sym (over-in (c .before .before .be
 
 -- src/entry.rt:54:1
 returns-2 : tie.Need-returns-2
-returns-2 c = sym (over-out (c .before .args .cells .now) _ _ (omega arith))
+returns-2 c = sym (over-none (c .before .args .cells .now) _ _ (omega arith))
 
 pub write-over-spec : {M : Type 1} → statement M
 write-over-spec = tie.close (tie.spec put-cell-requires same-length returns returns-2)
