@@ -170,6 +170,25 @@ impl Judge {
         Ran { stop: 0, detail: 0, steps: budget.into() }
     }
 
+    /// `Computer::step` alone, to time it: the buffers stay behind until `refresh`.
+    pub fn steps_alone(&mut self, n: u32) {
+        for _ in 0..n {
+            if self.computer.step().is_err() {
+                return;
+            }
+        }
+    }
+
+    /// Cells, registers and cycles as the `Computer` has them.
+    pub fn refresh(&mut self) {
+        for address in 0..CELLS {
+            let cell = encode(self.computer.memory.get(address as u32).expect("below the size"));
+            self.cells[3 * address..3 * address + 3].copy_from_slice(&cell);
+        }
+        self.row = self.registers_now();
+    }
+
+
     /// The refusal's number, 0 where the bytes were delivered.
     pub fn deliver(&mut self, bytes: &[u8]) -> u64 {
         self.changed.clear();

@@ -1,0 +1,108 @@
+//! bench STEPS ROUNDS: the unchanged original, the plain interpreter and the proved library on the same loops, in one
+//! process and in turn; CPU time of the thread, best and median, and the library's ratio to the others.
+
+mod clock;
+mod programs;
+
+use judge::Judge;
+use programs::Program;
+
+type Machine = (Vec<i64>, [i64; 16]);
+
+const QUEUE: usize = 256;
+const OUTPUT: usize = 4_096;
+
+fn original(program: &Program, steps: u32) -> (u64, Machine) {
+    let mut judge = Judge::new(&program.cells, &[0; QUEUE], &[0; OUTPUT], &program.row);
+    let spent = clock::time(|| judge.steps_alone(steps));
+    judge.refresh();
+    (spent, (judge.cells().to_vec(), *judge.row()))
+}
+
+fn plain(program: &Program, steps: u32) -> (u64, Machine) {
+    let (mut cells, mut row) = (program.cells.clone(), program.row);
+    let spent = clock::time(|| {
+        plain::run(&mut cells, &mut [0; QUEUE], &mut [0; OUTPUT], &mut row, steps);
+    });
+    (spent, (cells, row))
+}
+
+fn library(program: &Program, steps: u32) -> (u64, Machine) {
+    let (mut cells, mut row) = (program.cells.clone(), program.row);
+    let spent = clock::time(|| {
+        z33::run(&mut cells[..], &mut [0; QUEUE][..], &mut [0; OUTPUT][..], &mut row[..], steps);
+    });
+    (spent, (cells, row))
+}
+
+fn best_and_median(times: &mut [u64], steps: u32) -> (f64, f64) {
+    times.sort_unstable();
+    let a_step = |t: u64| t as f64 / f64::from(steps);
+    (a_step(times[0]), a_step(times[times.len() / 2]))
+}
+
+/// One line: nanoseconds a step of the three, and how many times faster the library is.
+fn compare(program: &Program, steps: u32, rounds: usize) {
+    let machines: [fn(&Program, u32) -> (u64, Machine); 3] = [original, plain, library];
+    let mut times = [const { Vec::new() }; 3];
+    for _ in 0..rounds {
+        let ends = machines.map(|run| run(program, steps));
+        assert!(ends.iter().all(|end| end.1 == ends[0].1), "{}: the final machines differ", program.name);
+        for (all, end) in times.iter_mut().zip(ends) {
+            all.push(end.0);
+        }
+    }
+    let [first, second, third] = times.map(|mut all| best_and_median(&mut all, steps));
+    println!(
+        "{:34} {:6.2} {:6.2}   {:6.2} {:6.2}   {:6.2} {:6.2}   {:5.2} {:5.2}",
+        program.name,
+        first.0,
+        first.1,
+        second.0,
+        second.1,
+        third.0,
+        third.1,
+        first.0 / third.0,
+        second.0 / third.0
+    );
+}
+
+/// What a call costs before its first step.
+fn acceptance(program: &Program, budget: u32) {
+    let (mut cells, mut row) = (program.cells.clone(), program.row);
+    let (mut queue, mut output) = ([0; QUEUE], [0; OUTPUT]);
+    let calls = 500;
+    let spent = clock::time(|| {
+        for _ in 0..calls {
+            z33::run(&mut cells[..], &mut queue[..], &mut output[..], &mut row[..], budget);
+        }
+    });
+    println!(
+        "a call on 10,000 {}, budget {budget}: {:.1} us",
+        program.name,
+        spent as f64 / f64::from(calls) / 1e3
+    );
+}
+
+fn growth(program: &Program) {
+    for power in 3..=7 {
+        let steps = 10_u32.pow(power);
+        let (spent, _) = library(program, steps);
+        println!("{steps:>9} steps of {}: {:.2} ns a step", program.name, spent as f64 / f64::from(steps));
+    }
+}
+
+fn main() {
+    let mut words = std::env::args().skip(1).map(|w| w.parse::<u32>().expect("STEPS ROUNDS"));
+    let (steps, rounds) = (words.next().unwrap_or(2_000_000), words.next().unwrap_or(5) as usize);
+    println!("ns a step, best and median of {rounds} rounds of {steps} steps");
+    println!("{:34} {:13}   {:13}   {:13}   library is faster than", "", "original", "plain", "library");
+    println!("{:34} {:13}   {:13}   {:13}   original, plain", "", "", "", "");
+    let programs = programs::all();
+    programs.iter().for_each(|program| compare(program, steps, rounds));
+    for kind in &programs::kinds() {
+        acceptance(kind, 0);
+        acceptance(kind, 1);
+    }
+    growth(&programs[0]);
+}
