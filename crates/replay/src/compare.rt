@@ -1,0 +1,61 @@
+// What a call answered and left, against the list.
+use crate::state::Fault;
+
+// Numbers that a call does not give are 0; count is steps or drained bytes.
+pub struct Answer {
+    pub refusal: u64,
+    pub place: u64,
+    pub stop: u64,
+    pub detail: u64,
+    pub count: u64,
+}
+
+pub fn answers(got: Answer, due: Answer) -> Fault {
+    if got.refusal != due.refusal {
+        return Fault::Refusal;
+    }
+    if got.place != due.place {
+        return Fault::Place;
+    }
+    if got.stop != due.stop {
+        return Fault::Stop;
+    }
+    if got.detail != due.detail {
+        return Fault::Detail;
+    }
+    if got.count != due.count {
+        return Fault::Count;
+    }
+    Fault::Nothing
+}
+
+// The numbers and bytes that a call left.
+pub fn left(
+    cells: &[i64],
+    due_cells: &[i64],
+    queue: &[u8],
+    due_queue: &[u8],
+    output: &[u8],
+    due_output: &[u8],
+    row: &[i64],
+    due_row: &[i64],
+    buffer: &[u8],
+    due_buffer: &[u8],
+) -> Fault {
+    if !recorded::same::same_numbers(row, due_row) {
+        return Fault::Row;
+    }
+    if !recorded::same::same_numbers(cells, due_cells) {
+        return Fault::Cells;
+    }
+    if !check::same(queue, due_queue) {
+        return Fault::Queue;
+    }
+    if !check::same(output, due_output) {
+        return Fault::Output;
+    }
+    if !check::same(buffer, due_buffer) {
+        return Fault::Buffer;
+    }
+    Fault::Nothing
+}
