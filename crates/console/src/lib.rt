@@ -1,11 +1,10 @@
-// io.rs: the serial console, by value beside the lent queue and output record.
+// io.rs: the serial console, by value beside the lent queue and output record. Its three marks are changed in crates/marks.
 use definition::Marks;
 ghost use mathlib.Core.Path.{_≡_};
 ghost use mathlib.Core.List.{List};
-ghost use mathlib.Core.Bool.{cond};
 ghost use Prim.Native.Nat.{ℕ, _+_, _<_, _≤_};
 ghost use lib.ListN.{length, set};
-ghost use Rattle.definition.specs.Io.{inputReady, status, readStatus, writeControl, raiseInterrupt, delivered, around, readPort, readData, writePort, outputFull, putBytes, drained};
+ghost use Rattle.definition.specs.Io.{around, readPort, readData, writePort, outputFull, putBytes, drained};
 ghost use Rattle.console.specs.State.{consoleOf, Sends};
 
 // The console without its bytes.
@@ -27,74 +26,6 @@ pub struct Sent {
     pub k: ConsoleState,
     pub sends: bool,
     pub byte: u8,
-}
-
-// SerialConsole::read of port 110: "2, plus 1 if bytes are queued, plus 4 if the interrupt flag is set"
-pub fn status(ready: bool, marks: Marks) -> u8
-    ensures { λ r. ⌜ r ≡ status ready marks ⌝ }
-{
-    2 + bit(ready, 1) + bit(marks.flag, 4)
-}
-
-fn bit(on: bool, worth: u8) -> u8
-    requires { ⌜ worth < 8 ⌝ }
-    ensures { λ r. ⌜ (r ≡ cond on worth 0) × (r < 8) ⌝ }
-{
-    if on { worth } else { 0 }
-}
-
-// "the read clears the flag, not the pending mark"
-pub fn read_status(marks: Marks) -> Marks
-    ensures { λ r. ⌜ r ≡ readStatus marks ⌝ }
-{
-    Marks {
-        enable: marks.enable,
-        flag: false,
-        pending: marks.pending,
-    }
-}
-
-// "sets flag and mark"
-pub fn raise_interrupt(marks: Marks) -> Marks
-    ensures { λ r. ⌜ r ≡ raiseInterrupt marks ⌝ }
-{
-    Marks {
-        enable: marks.enable,
-        flag: true,
-        pending: true,
-    }
-}
-
-// SerialConsole::write of port 110: "the lowest bit sets or clears receive-interrupt enable; writing it as 1 with bytes queued, enabled
-// before or not, sets flag and mark."
-pub fn write_control(ready: bool, w: i64, marks: Marks) -> Marks
-    ensures { λ r. ⌜ r ≡ writeControl ready w marks ⌝ }
-{
-    let on = word::test_bit(w, 0);
-    if on & ready {
-        Marks {
-            enable: true,
-            flag: true,
-            pending: true,
-        }
-    } else {
-        Marks {
-            enable: on,
-            flag: marks.flag,
-            pending: marks.pending,
-        }
-    }
-}
-
-// SerialConsole::push_input: "Delivering one byte or more with enable set sets flag and mark; delivering none does nothing."
-pub fn delivered(n: usize, marks: Marks) -> Marks
-    ensures { λ r. ⌜ r ≡ delivered n marks ⌝ }
-{
-    if (0 < n) & marks.enable {
-        raise_interrupt(marks)
-    } else {
-        marks
-    }
 }
 
 // A place in the queue, "wrapping at the queue's end".
@@ -128,12 +59,13 @@ pub fn read_port(queue: &[u8], k: ConsoleState, port: u32) -> Received
     requires { ⌜ k .start < length (now queue) ⌝ }
     ensures { λ r. ⌜ ((output : List ℕ) → (r .value, consoleOf (r .k) (now (queue .entry)) output) ≡ readPort port (consoleOf k (now (queue .entry)) output)) ⌝ }
 {
-    let marks = k.marks;
     if port == 110 {
+        let read = marks::status_read(k.marks, 0 < k.count);
         let mut after = k;
-        after.marks = read_status(marks);
+        let cleared = read.marks;
+        after.marks = cleared;
         return Received {
-            value: status(0 < k.count, marks),
+            value: read.value,
             k: after,
         };
     }
@@ -150,7 +82,7 @@ pub fn write_port(k: ConsoleState, port: u32, w: i64) -> Sent
 {
     if port == 110 {
         let mut after = k;
-        after.marks = write_control(0 < k.count, w, k.marks);
+        after.marks = marks::control_written(k.marks, 0 < k.count, w);
         return Sent {
             k: after,
             sends: false,

@@ -164,7 +164,7 @@ pub fn put_delivered(row: &mut [i64], n: usize)
     requires { ⌜ (length (now row) ≡ 16) × (natAbs (at 15 (now row)) + n < 2 ^ 63) ⌝ }
     ensures { λ r. ⌜ now (row .exit) ≡ deliveredRow n (now (row .entry)) ⌝ }
 {
-    let k = console::delivered(n, marks(row));
+    let k = marks::input_pushed(marks(row), n);
     let flag = mark_number(k.flag);
     let pending = mark_number(k.pending);
     let count = (number_at(row, 14) + n as u64) as i64;

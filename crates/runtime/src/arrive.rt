@@ -2,7 +2,6 @@
 use console::ConsoleState;
 use definition::Cell;
 use definition::Error;
-use definition::Marks;
 use definition::Registers;
 ghost use mathlib.Core.Path.{_≡_};
 ghost use mathlib.Core.Bool.{false};
@@ -43,12 +42,8 @@ pub struct Arrival {
 fn taken(k: ConsoleState) -> ConsoleState
     ensures { λ r. ⌜ r ≡ record { marks = record { enable = k .marks .enable; flag = k .marks .flag; pending = false }; start = k .start; count = k .count; written = k .written } ⌝ }
 {
-    let old = k.marks;
-    let marks = Marks {
-        enable: old.enable,
-        flag: old.flag,
-        pending: false,
-    };
+    let polled = marks::interrupt_polled(k.marks);
+    let marks = polled.marks;
     ConsoleState {
         marks,
         start: k.start,

@@ -6,32 +6,22 @@ use Rattle.console.proofs.read_port.Tie as tie
 use Rattle.console.proofs.read_port.Reads as reads
 use Rattle.console.proofs.read_port.Lts as lts
 use Rattle.console.proofs.read_data.Reads as read-data-reads
-use Rattle.console.proofs.read_status.Reads as read-status-reads
-use Rattle.console.proofs.status.Reads as status-reads
+use Rattle.marks.proofs.status_read.Reads as status-read-reads
 
--- src/lib.rt:140:9
-read-status-requires : tie.Need-read-status-requires
-read-status-requires c κs = search needs
+status-read-requires : tie.Need-status-read-requires
+status-read-requires c κs = search needs
 
--- src/lib.rt:142:20
-status-requires : tie.Need-status-requires
-status-requires c κs = search needs
-
--- src/lib.rt:141:9
 returns : tie.Need-returns
 unfolding readPort inputReady
-returns c = λ output. rw (eq-eqb _ _ (c .before .before .before .if1 .taken), c .status .ensures, c .before .before .read-status .ensures)
+returns c = λ output. rw (eq-eqb _ _ (c .before .before .before .if1 .taken), c .before .status-read .ensures .0, c .before .status-read .ensures .1)
 
--- src/lib.rt:147:9
 read-data-requires : tie.Need-read-data-requires
 read-data-requires c κs = search needs
 
--- src/lib.rt:147:9
 returns-2 : tie.Need-returns-2
 unfolding readPort
 returns-2 c = λ output. rw (ne-eqb _ _ (c .before .before .if1 .left), eq-eqb _ _ (c .before .if2 .taken)) (c .read-data .ensures output)
 
--- src/lib.rt:133:1
 returns-3 : tie.Need-returns-3
 unfolding readPort
 returns-3 c = λ output. rw (ne-eqb _ _ (c .before .if1 .left), ne-eqb _ _ (c .if2 .left))
@@ -39,4 +29,4 @@ returns-3 c = λ output. rw (ne-eqb _ _ (c .before .if1 .left), ne-eqb _ _ (c .i
 pub read-port-spec : {M : Type 1} → statement M
 read-port-spec =
     tie.close
-    (tie.spec read-status-requires status-requires returns read-data-requires returns-2 returns-3)
+    (tie.spec status-read-requires returns read-data-requires returns-2 returns-3)

@@ -12,8 +12,8 @@ use Rattle.refusals.proofs.row.put_delivered.Tie as tie
 marks-requires : tie.Need-marks-requires
 marks-requires c κs = search needs
 
-delivered-requires : tie.Need-delivered-requires
-delivered-requires c κs = search needs
+input-pushed-requires : tie.Need-input-pushed-requires
+input-pushed-requires c κs = search needs
 
 mark-number-requires : tie.Need-mark-number-requires
 mark-number-requires c κs = search needs
@@ -45,14 +45,14 @@ same-length c = search needs
 returns : tie.Need-returns
 unfolding deliveredRow
 returns c = let h : c .number-at .result + c .before .before .before .before .before .before .before .args .n < 2 ^ 63 = omega (arith, c .number-at .ensures) in
-    rw (toZ-pos w64 h, back (c .before .before .before .mark-number .result) (c .before .before .before .mark-number .ok), back (c .before .before .mark-number2 .result) (c .before .before .mark-number2 .ok), c .before .before .before .mark-number .ensures, c .before .before .mark-number2 .ensures, c .number-at .ensures, c .before .before .before .before .delivered .ensures, c .before .before .before .before .before .marks .ensures)
+    rw (toZ-pos w64 h, back (c .before .before .before .mark-number .result) (c .before .before .before .mark-number .ok), back (c .before .before .mark-number2 .result) (c .before .before .mark-number2 .ok), c .before .before .before .mark-number .ensures, c .before .before .mark-number2 .ensures, c .number-at .ensures, c .before .before .before .before .input-pushed .ensures, c .before .before .before .before .before .marks .ensures)
 
 pub put-delivered-spec : {M : Type 1} → statement M
 put-delivered-spec =
     tie.close
     (tie.spec
     marks-requires
-    delivered-requires
+    input-pushed-requires
     mark-number-requires
     mark-number-requires-2
     number-at-requires

@@ -1,23 +1,20 @@
 use mir.Facts.{toZ-ofZ}
 use Rattle.definition.specs.Io.{writeControl}
 use borrow.Author.Needs.{needs}
-use Rattle.console.proofs.write_control.Statement.{statement}
-use Rattle.console.proofs.write_control.Tie as tie
-use Rattle.console.proofs.write_control.Reads as reads
-use Rattle.console.proofs.write_control.Lts as lts
+use Rattle.marks.proofs.write_control.Statement.{statement}
+use Rattle.marks.proofs.write_control.Tie as tie
+use Rattle.marks.proofs.write_control.Reads as reads
+use Rattle.marks.proofs.write_control.Lts as lts
 use Rattle.word.proofs.test_bit.Reads as test-bit-reads
 
--- src/lib.rt:73:9
 test-bit-requires : tie.Need-test-bit-requires
 test-bit-requires c κs = search needs
 
--- src/lib.rt:70:1
 returns : tie.Need-returns
 unfolding writeControl
 returns c = let e = rw (toZ-ofZ (c .before .before .fits .w)) at (c .before .test-bit .ensures) in
     rw (rw e at (c .if1 .taken))
 
--- src/lib.rt:70:1
 returns-2 : tie.Need-returns-2
 unfolding writeControl
 returns-2 c = let e = rw (toZ-ofZ (c .before .before .fits .w)) at (c .before .test-bit .ensures) in

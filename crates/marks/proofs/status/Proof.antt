@@ -1,28 +1,23 @@
 use Rattle.definition.specs.Io.{status}
 use borrow.Author.Needs.{needs}
-use Rattle.console.proofs.status.Statement.{statement}
-use Rattle.console.proofs.status.Tie as tie
-use Rattle.console.proofs.status.Reads as reads
-use Rattle.console.proofs.status.Lts as lts
-use Rattle.console.proofs.bit.Reads as bit-reads
+use Rattle.marks.proofs.status.Statement.{statement}
+use Rattle.marks.proofs.status.Tie as tie
+use Rattle.marks.proofs.status.Reads as reads
+use Rattle.marks.proofs.status.Lts as lts
+use Rattle.marks.proofs.bit.Reads as bit-reads
 
--- src/lib.rt:36:9
 bit-requires : tie.Need-bit-requires
 bit-requires c κs = search needs
 
--- src/lib.rt:36:5
 add-result : tie.Need-add-result
 add-result c = search needs
 
--- src/lib.rt:36:25
 bit-requires-2 : tie.Need-bit-requires-2
 bit-requires-2 c κs = search needs
 
--- src/lib.rt:36:5
 add-result-2 : tie.Need-add-result-2
 add-result-2 c = search needs
 
--- src/lib.rt:33:1
 returns : tie.Need-returns
 unfolding status
 returns c = rw (c .before .bit .ensures .0, c .bit2 .ensures .0)
