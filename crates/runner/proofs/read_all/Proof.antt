@@ -1,0 +1,72 @@
+use mathlib.Core.Path.{_≡_}
+use lib.ListN.{length}
+use borrow.Author.Needs.{needs}
+use Rattle.runner.proofs.read_all.Statement.{statement}
+use Rattle.runner.proofs.read_all.Tie as tie
+use Rattle.runner.proofs.read_all.Reads as reads
+use Rattle.runner.proofs.read_all.Lts as lts
+use Rattle.lines.proofs.open.Reads as open-reads
+use Rattle.runner.proofs.read_part.Reads as read-part-reads
+
+abbrev Inv-loop : tie.InvT-loop
+Inv-loop fd cells₀ r₀ turns₀ cells r turns = length cells ≡ length cells₀
+
+abbrev μ-loop : tie.MeasureT-loop
+μ-loop fd cells₀ r₀ turns₀ cells r turns = turns
+
+-- src/main.rt:55:9
+open-requires : tie.Need-open-requires Inv-loop μ-loop
+open-requires c κs = search needs
+
+-- src/main.rt:57:5
+loop-holds : tie.Need-loop-holds Inv-loop μ-loop
+loop-holds c = search needs
+
+-- src/main.rt:58:13
+read-part-requires : tie.Need-read-part-requires Inv-loop μ-loop
+read-part-requires c κs = search needs
+
+-- src/main.rt:61:13
+same-length : tie.Need-same-length Inv-loop μ-loop
+same-length c = search needs
+
+-- src/main.rt:61:13
+returns : tie.Need-returns Inv-loop μ-loop
+returns c = search needs
+
+-- src/main.rt:66:9
+sub-turns : tie.Need-sub-turns Inv-loop μ-loop
+sub-turns c = search needs
+
+-- src/main.rt:57:5
+loop-less : tie.Need-loop-less Inv-loop μ-loop
+loop-less c = search needs
+
+-- src/main.rt:57:5
+loop-again : tie.Need-loop-again Inv-loop μ-loop
+loop-again c = search needs
+
+-- src/main.rt:52:1
+same-length-2 : tie.Need-same-length-2 Inv-loop μ-loop
+same-length-2 c = search needs
+
+-- src/main.rt:52:1
+returns-2 : tie.Need-returns-2 Inv-loop μ-loop
+returns-2 c = search needs
+
+pub read-all-spec : {M : Type 1} → statement M
+read-all-spec =
+    tie.close
+    (tie.spec
+    Inv-loop
+    μ-loop
+    open-requires
+    loop-holds
+    read-part-requires
+    same-length
+    returns
+    sub-turns
+    loop-less
+    loop-again
+    same-length-2
+    returns-2)

@@ -1,0 +1,114 @@
+// The runner: reads an image's lines from standard input, or from the file that its argument names, runs it, and prints the mark.
+use libc::STDERR_FILENO;
+use libc::STDIN_FILENO;
+use libc::STDOUT_FILENO;
+use lines::Reader;
+ghost use mathlib.Core.Path.{_≡_};
+ghost use lib.ListN.{length};
+
+// The reader after the whole input, or after the first broken line; `failed` where the input could not be read.
+struct Input {
+    failed: bool,
+    reader: Reader,
+}
+
+// One read more.
+struct Turn {
+    ended: bool,
+    failed: bool,
+    reader: Reader,
+}
+
+fn no_cells() -> [i64; 6144]
+    ensures { λ r. ⌜ 6144 ≡ length r ⌝ }
+{
+    [0; 6144]
+}
+
+// Takes what one read gives.
+fn read_part(fd: i32, cells: &mut [i64], r: Reader) -> Turn
+    requires { ⌜ length (now cells) ≡ 6144 ⌝ }
+{
+    let mut buf = io::large_buffer();
+    let got = libc::read(fd, &mut buf);
+    if got <= 0 {
+        return Turn {
+            ended: true,
+            failed: got < 0,
+            reader: r,
+        };
+    }
+    let n = io::count(got, &buf);
+    let q = lines::part::take_part(cells, r, &buf[..n]);
+    Turn {
+        ended: q.broken,
+        failed: false,
+        reader: q,
+    }
+}
+
+// No input uses up so many turns.
+fn read_all(fd: i32, cells: &mut [i64]) -> Input
+    requires { ⌜ length (now cells) ≡ 6144 ⌝ }
+{
+    let mut r = lines::open();
+    let mut turns = u64::MAX;
+    while turns > 0 {
+        let t = read_part(fd, cells, r);
+        r = t.reader;
+        if t.ended {
+            return Input {
+                failed: t.failed,
+                reader: r,
+            };
+        }
+        turns -= 1;
+    }
+    Input {
+        failed: false,
+        reader: r,
+    }
+}
+
+// Prints the mark of what fd gives, whole, or says on standard error why it could not be read.
+fn mark(fd: i32, name: &[u8]) {
+    let mut cells = no_cells();
+    let t = read_all(fd, &mut cells);
+    if t.failed {
+        os::fail(name);
+        return;
+    }
+    let mut out = [0u8; 512];
+    let r = t.reader;
+    let n = marker::put_mark(&mut cells, r, &mut out);
+    io::write_all(STDOUT_FILENO, &out[..n]);
+}
+
+fn mark_file() {
+    let mut path = io::buffer();
+    let n = os::arg(1, &mut path);
+    if os::errno() != 0 {
+        os::fail(b"the file's name");
+        return;
+    }
+    let fd = os::open_read(&path[..n]);
+    if fd < 0 {
+        os::fail(&path[..n]);
+        return;
+    }
+    mark(fd, &path[..n]);
+    libc::close(fd);
+}
+
+fn main() {
+    let n = os::arg_count();
+    if n <= 1 {
+        mark(STDIN_FILENO, b"standard input");
+        return;
+    }
+    if n == 2 {
+        mark_file();
+        return;
+    }
+    io::write_all(STDERR_FILENO, b"usage: runner [FILE]\n");
+}
