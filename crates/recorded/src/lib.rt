@@ -1,5 +1,6 @@
 // The recorded list, read byte by byte: lines of five numbers (host/recorded/FORMAT.md).
 pub mod clear;
+pub mod compare;
 pub mod number;
 pub mod place;
 pub mod reader;

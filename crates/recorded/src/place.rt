@@ -1,19 +1,20 @@
 // A line's numbers put where it says. Each answers whether there is such a place and, for a byte, such a byte.
-use super::reader::Line;
 use definition::Address;
+ghost use mathlib.Core.Path.{_≡_};
 ghost use Prim.Native.Nat.{_≤_};
 ghost use lib.ListN.{length};
+ghost use Rattle.definition.specs.Word.{addressOf};
+ghost use Rattle.recorded.specs.Place.{cellPut, numberPut, bytePut};
 
-// A line of a cell: address, tag, first, second.
-pub fn put_cell(cells: &mut [i64; 30000], l: Line) -> bool {
-    let Address::At(n) = word::to_address(l.a) else {
+// A cell: address, tag, first, second.
+pub fn put_cell(cells: &mut [i64; 30000], address: i64, tag: i64, first: i64, second: i64) -> bool
+    ensures { λ r. ⌜ (r, now (cells .exit)) ≡ cellPut (addressOf address) tag first second (now (cells .entry)) ⌝ }
+{
+    let Address::At(n) = word::to_address(address) else {
         return false;
     };
     let i = n as usize;
     if i < 10000 {
-        let tag = l.b;
-        let first = l.c;
-        let second = l.d;
         let at = 3 * i;
         cells[at] = tag;
         cells[at + 1] = first;
@@ -23,9 +24,11 @@ pub fn put_cell(cells: &mut [i64; 30000], l: Line) -> bool {
     false
 }
 
-// A line of a number of the row: place, 1 to 16, and number.
-pub fn put_number(row: &mut [i64; 16], l: Line) -> bool {
-    let Address::At(n) = word::to_address(l.a) else {
+// A number of the row: place, 1 to 16.
+pub fn put_number(row: &mut [i64; 16], place: i64, z: i64) -> bool
+    ensures { λ r. ⌜ (r, now (row .exit)) ≡ numberPut (addressOf place) z (now (row .entry)) ⌝ }
+{
+    let Address::At(n) = word::to_address(place) else {
         return false;
     };
     let i = n as usize;
@@ -35,22 +38,22 @@ pub fn put_number(row: &mut [i64; 16], l: Line) -> bool {
     if 16 < i {
         return false;
     }
-    let z = l.b;
     row[i - 1] = z;
     true
 }
 
-// A line of a byte, one of n: index, from 0, and byte.
-pub fn put_byte(bytes: &mut [u8], n: usize, l: Line) -> bool
+// A byte, one of n: index, from 0.
+pub fn put_byte(bytes: &mut [u8], n: usize, index: i64, byte: i64) -> bool
     requires { ⌜ n ≤ length (now bytes) ⌝ }
+    ensures { λ r. ⌜ (r, now (bytes .exit)) ≡ bytePut (addressOf index) (addressOf byte) n (now (bytes .entry)) ⌝ }
 {
-    let Address::At(index) = word::to_address(l.a) else {
+    let Address::At(at) = word::to_address(index) else {
         return false;
     };
-    let Address::At(b) = word::to_address(l.b) else {
+    let Address::At(b) = word::to_address(byte) else {
         return false;
     };
-    let i = index as usize;
+    let i = at as usize;
     if i < n {
         if b < 256 {
             bytes[i] = b as u8;

@@ -1,12 +1,12 @@
 // The lines 10 to 14: a call on the machine, its answer compared with the line's.
-use crate::compare::Answer;
 use crate::state::AFTER;
-use crate::state::Fault;
 use crate::state::State;
 use definition::Address;
 use definition::Done;
 use definition::Drained;
 use definition::Ran;
+use recorded::compare::Answer;
+use recorded::compare::Fault;
 use recorded::reader::Line;
 ghost use Rattle.replay.specs.Room.{Fits};
 ghost use Prim.Native.Nat.{_≤_};
@@ -26,7 +26,7 @@ fn called(s: State, buffer: usize, got: Answer, due: Answer) -> State
         cases: s.cases,
         calls: std::num::wrapping_add_u64(s.calls, 1),
         lines: s.lines,
-        fault: crate::compare::answers(got, due),
+        fault: recorded::compare::answers(got, due),
     }
 }
 

@@ -3,12 +3,12 @@ use crate::state::BEFORE;
 use crate::state::CALL;
 use crate::state::CASE;
 use crate::state::DELIVERY;
-use crate::state::Fault;
 use crate::state::NONE;
 use crate::state::State;
 use crate::state::checked;
 use crate::state::with_fault;
 use definition::Address;
+use recorded::compare::Fault;
 use recorded::place::put_byte;
 use recorded::place::put_cell;
 use recorded::place::put_number;
@@ -126,7 +126,7 @@ fn byte_to_deliver(s: State, l: Line, bytes: &mut [u8; 8]) -> State
     let mut next = s;
     next.phase = DELIVERY;
     next.bytes = s.bytes + 1;
-    checked(next, put_byte(bytes, 8, l))
+    checked(next, put_byte(bytes, 8, l.a, l.b))
 }
 
 // The lines 2 to 5: "before".
@@ -149,10 +149,19 @@ fn before(
     let q = s.queue;
     let o = s.output;
     match kind {
-        2 => checked(s, put_cell(cells, l) & put_cell(due_cells, l)),
-        3 => checked(s, put_number(row, l) & put_number(due_row, l)),
-        4 => checked(s, put_byte(queue, q, l) & put_byte(due_queue, q, l)),
-        _ => checked(s, put_byte(output, o, l) & put_byte(due_output, o, l)),
+        2 => checked(
+            s,
+            put_cell(cells, l.a, l.b, l.c, l.d) & put_cell(due_cells, l.a, l.b, l.c, l.d),
+        ),
+        3 => checked(s, put_number(row, l.a, l.b) & put_number(due_row, l.a, l.b)),
+        4 => checked(
+            s,
+            put_byte(queue, q, l.a, l.b) & put_byte(due_queue, q, l.a, l.b),
+        ),
+        _ => checked(
+            s,
+            put_byte(output, o, l.a, l.b) & put_byte(due_output, o, l.a, l.b),
+        ),
     }
 }
 
@@ -174,11 +183,11 @@ fn after(
     let o = s.output;
     let n = s.buffer;
     match kind {
-        20 => checked(s, put_cell(due_cells, l)),
-        21 => checked(s, put_number(due_row, l)),
-        22 => checked(s, put_byte(due_queue, q, l)),
-        23 => checked(s, put_byte(due_output, o, l)),
-        _ => checked(s, put_byte(due_buffer, n, l)),
+        20 => checked(s, put_cell(due_cells, l.a, l.b, l.c, l.d)),
+        21 => checked(s, put_number(due_row, l.a, l.b)),
+        22 => checked(s, put_byte(due_queue, q, l.a, l.b)),
+        23 => checked(s, put_byte(due_output, o, l.a, l.b)),
+        _ => checked(s, put_byte(due_buffer, n, l.a, l.b)),
     }
 }
 
@@ -224,7 +233,7 @@ fn close(
     requires { ⌜ Fits s ⌝ }
     ensures { λ r. ⌜ Fits r ⌝ }
 {
-    let f = crate::compare::left(
+    let f = recorded::compare::left(
         cells,
         due_cells,
         queue,

@@ -1,11 +1,10 @@
 // Replays the recorded list (host/recorded/FORMAT.md) from standard input on the proved calls, and says in one line how many cases and
 // calls it held, or what first differs from it.
 use libc::STDOUT_FILENO;
-use state::Fault;
+use recorded::compare::Fault;
 use state::State;
 
 mod calls;
-mod compare;
 mod lines;
 mod state;
 mod stream;
@@ -20,7 +19,7 @@ fn say(f: Fault) {
             STDOUT_FILENO,
             b"the case's number or the count of cases is wrong\n",
         ),
-        Fault::End => io::write_all(STDOUT_FILENO, b"the list ends before its last line\n"),
+        Fault::End => io::write_all(STDOUT_FILENO, b"the list does not end with its last line\n"),
         Fault::Refusal => io::write_all(STDOUT_FILENO, b"the refusal differs\n"),
         Fault::Place => io::write_all(STDOUT_FILENO, b"the refusal's place differs\n"),
         Fault::Stop => io::write_all(STDOUT_FILENO, b"the stop differs\n"),

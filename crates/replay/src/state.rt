@@ -1,26 +1,6 @@
 // How far the replay is, and the first thing that is not as the list says.
+use recorded::compare::Fault;
 ghost use Rattle.replay.specs.Room.{Fits};
-
-pub enum Fault {
-    Nothing,
-    // The list breaks its form.
-    Text,
-    Order,
-    Number,
-    Cases,
-    End,
-    // The machine differs from the list.
-    Refusal,
-    Place,
-    Stop,
-    Detail,
-    Count,
-    Row,
-    Cells,
-    Queue,
-    Output,
-    Buffer,
-}
 
 // The lines that may come next.
 pub const FIRST: u32 = 0;

@@ -1,11 +1,11 @@
 // Standard input, byte by byte.
-use crate::state::Fault;
 use crate::state::NONE;
 use crate::state::State;
 use crate::state::fails;
 use crate::state::next_line;
 use crate::state::with_fault;
 use libc::STDIN_FILENO;
+use recorded::compare::Fault;
 use recorded::reader::Fed;
 use recorded::reader::Reader;
 ghost use Rattle.replay.specs.Room.{Fits};

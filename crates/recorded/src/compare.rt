@@ -1,5 +1,28 @@
 // What a call answered and left, against the list.
-use crate::state::Fault;
+ghost use mathlib.Core.Path.{_≡_};
+ghost use Rattle.recorded.specs.Compare.{Exactly};
+
+// What is not as the list says.
+pub enum Fault {
+    Nothing,
+    // The list breaks its form.
+    Text,
+    Order,
+    Number,
+    Cases,
+    End,
+    // The machine differs from the list.
+    Refusal,
+    Place,
+    Stop,
+    Detail,
+    Count,
+    Row,
+    Cells,
+    Queue,
+    Output,
+    Buffer,
+}
 
 // Numbers that a call does not give are 0; count is steps or drained bytes.
 pub struct Answer {
@@ -10,7 +33,9 @@ pub struct Answer {
     pub count: u64,
 }
 
-pub fn answers(got: Answer, due: Answer) -> Fault {
+pub fn answers(got: Answer, due: Answer) -> Fault
+    ensures { λ r. ⌜ Exactly (got ≡ due) r ⌝ }
+{
     if got.refusal != due.refusal {
         return Fault::Refusal;
     }
@@ -41,11 +66,13 @@ pub fn left(
     due_row: &[i64],
     buffer: &[u8],
     due_buffer: &[u8],
-) -> Fault {
-    if !recorded::same::same_numbers(row, due_row) {
+) -> Fault
+    ensures { λ r. ⌜ Exactly ((now (cells .entry) ≡ now («due_cells» .entry)) × ((now (queue .entry) ≡ now («due_queue» .entry)) × ((now (output .entry) ≡ now («due_output» .entry)) × ((now (row .entry) ≡ now («due_row» .entry)) × (now (buffer .entry) ≡ now («due_buffer» .entry)))))) r ⌝ }
+{
+    if !super::same::same_numbers(row, due_row) {
         return Fault::Row;
     }
-    if !recorded::same::same_numbers(cells, due_cells) {
+    if !super::same::same_numbers(cells, due_cells) {
         return Fault::Cells;
     }
     if !check::same(queue, due_queue) {
