@@ -1,0 +1,148 @@
+// Puts every case of the files that its arguments name through the runner's own functions and compares whole texts. A case is a line with two
+// lengths of seven digits, the input's and the output's, then the input and the output.
+use libc::STDOUT_FILENO;
+use lines::Reader;
+ghost use mathlib.Core.Path.{_≡_};
+ghost use Prim.Native.Nat.{_+_, _≤_};
+ghost use lib.ListN.{length};
+
+// How far the cases got.
+struct Tally {
+    at: usize,
+    seen: u64,
+    passed: u64,
+}
+
+fn no_cells() -> [i64; 6144]
+    ensures { λ r. ⌜ 6144 ≡ length r ⌝ }
+{
+    [0; 6144]
+}
+
+fn no_text() -> [u8; 512]
+    ensures { λ r. ⌜ 512 ≡ length r ⌝ }
+{
+    [0; 512]
+}
+
+// A file of cases is shorter than this.
+fn space() -> [u8; 65536]
+    ensures { λ r. ⌜ 65536 ≡ length r ⌝ }
+{
+    [0; 65536]
+}
+
+fn digit(b: u8) -> usize
+    ensures { λ r. ⌜ r ≤ 9 ⌝ }
+{
+    if b < 48 {
+        return 0;
+    }
+    if b < 58 {
+        return (b - 48) as usize;
+    }
+    0
+}
+
+// The number of seven digits at `at`.
+fn length_at(s: &[u8], at: usize) -> usize
+    requires { ⌜ at + 7 ≤ length (now s) ⌝ }
+    ensures { λ r. ⌜ r ≤ 9999999 ⌝ }
+{
+    let a = digit(s[at]) * 1000000 + digit(s[at + 1]) * 100000 + digit(s[at + 2]) * 10000;
+    let b = digit(s[at + 3]) * 1000 + digit(s[at + 4]) * 100 + digit(s[at + 5]) * 10;
+    a + b + digit(s[at + 6])
+}
+
+// The input goes in by two parts, cut at `cut`.
+fn read_cut(cells: &mut [i64], input: &[u8], cut: usize) -> Reader
+    requires { ⌜ length (now cells) ≡ 6144 ⌝ }
+{
+    let r = lines::open();
+    if cut < input.len() {
+        let q = lines::part::take_part(cells, r, &input[..cut]);
+        return lines::part::take_part(cells, q, &input[cut..]);
+    }
+    lines::part::take_part(cells, r, input)
+}
+
+// 1 where the runner's text is the one that is due, else 0.
+fn passes(input: &[u8], due: &[u8], cut: usize) -> u64
+    ensures { λ r. ⌜ r ≤ 1 ⌝ }
+{
+    let mut cells = no_cells();
+    let r = read_cut(&mut cells, input, cut);
+    let mut out = no_text();
+    let n = marker::put_mark(&mut cells, r, &mut out);
+    if check::same(&out[..n], due) {
+        return 1;
+    }
+    0
+}
+
+// Says which case, from 1, did not give its text.
+fn tell(passed: u64, seen: u64) {
+    if passed == 0 {
+        io::write_all(STDOUT_FILENO, b"not as due: case ");
+        io::print_decimal(STDOUT_FILENO, seen);
+        io::write_all(STDOUT_FILENO, b"\n");
+    }
+}
+
+// Ends where a case does not stand whole.
+fn replay(s: &[u8]) -> Tally {
+    let mut at: usize = 0;
+    let mut seen: u64 = 0;
+    let mut passed: u64 = 0;
+    while at < s.len() {
+        let left = s.len() - at;
+        if left < 16 {
+            break;
+        }
+        let a = length_at(s, at);
+        let b = length_at(s, at + 8);
+        if left - 16 < a + b {
+            break;
+        }
+        let i = at + 16;
+        let j = i + a;
+        let k = j + b;
+        let one = passes(&s[i..j], &s[j..k], (seen % 100) as usize);
+        seen += 1;
+        passed += one;
+        tell(one, seen);
+        at = k;
+    }
+    Tally { at, seen, passed }
+}
+
+fn replay_file(i: usize) {
+    let mut path = io::buffer();
+    let k = os::arg(i, &mut path);
+    let fd = os::open_read(&path[..k]);
+    if fd < 0 {
+        os::fail(&path[..k]);
+        return;
+    }
+    let mut text = space();
+    let n = io::read_full(fd, &mut text);
+    libc::close(fd);
+    let t = replay(&text[..n]);
+    io::write_all(STDOUT_FILENO, &path[..k]);
+    if t.at == n {
+        io::write_all(STDOUT_FILENO, b": passed ");
+        io::print_decimal(STDOUT_FILENO, t.passed);
+        io::write_all(STDOUT_FILENO, b" of ");
+        io::print_decimal(STDOUT_FILENO, t.seen);
+        io::write_all(STDOUT_FILENO, b"\n");
+    } else {
+        io::write_all(STDOUT_FILENO, b": ends within a case\n");
+    }
+}
+
+fn main() {
+    let n = os::arg_count();
+    for i in 1..n {
+        replay_file(i);
+    }
+}
