@@ -1,6 +1,6 @@
 -- The reader of the runner's lines, as a fold over the bytes of the text.
 use mathlib.Core.Bool.{Bool, true, false, cond, _&&_, _||_}
-use mathlib.Core.List.{List, [], _∷_, foldl}
+use mathlib.Core.List.{List, [], _∷_, _++_, foldl}
 use Prim.Native.Nat.{ℕ, suc, _+_, _*_, _-_}
 use lib.IntN.{ℤ, pos, negℤ, natAbs}
 use lib.ListN.{getD, replicate}
@@ -154,3 +154,12 @@ emptyCells = replicate 6144 (pos 0)
 -- What is made of a whole text.
 unfoldable pub readText : List ℕ → State
 readText text = foldl step (state opened emptyCells) text
+
+-- A text in parts, and the parts read one after the other, each from where the last one left.
+unfoldable pub joined : List (List ℕ) → List ℕ
+joined [] = []
+joined (p ∷ ps) = p ++ joined ps
+
+unfoldable pub readParts : State → List (List ℕ) → State
+readParts s [] = s
+readParts s (p ∷ ps) = readParts (foldl step s p) ps
