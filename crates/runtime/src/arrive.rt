@@ -2,6 +2,7 @@
 use console::ConsoleState;
 use definition::Cell;
 use definition::Error;
+use definition::Marks;
 use definition::Registers;
 ghost use mathlib.Core.Path.{_≡_};
 ghost use mathlib.Core.Bool.{false};
@@ -38,12 +39,18 @@ pub struct Arrival {
     pub byte: u8,
 }
 
-// "if I is set, the pending mark is taken"
+// "if I is set, the pending mark is taken": a poll leaves the other two, and carrying them past it keeps the run loop as fast (docs/DECISIONS.md).
 fn taken(k: ConsoleState) -> ConsoleState
     ensures { λ r. ⌜ r ≡ record { marks = record { enable = k .marks .enable; flag = k .marks .flag; pending = false }; start = k .start; count = k .count; written = k .written } ⌝ }
 {
-    let polled = marks::interrupt_polled(k.marks);
-    let marks = polled.marks;
+    let old = k.marks;
+    let polled = marks::interrupt_polled(old);
+    let left = polled.marks;
+    let marks = Marks {
+        enable: old.enable,
+        flag: old.flag,
+        pending: left.pending,
+    };
     ConsoleState {
         marks,
         start: k.start,
