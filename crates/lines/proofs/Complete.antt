@@ -175,10 +175,3 @@ complete (G.image {k} {u} {v} {pc} {sp} {sr} {m} a b) h =
 pub answers-0 : {n : ℕ} {st : Start} {m : List ℤ} {u : State} → Reached n st m u → brokenLine (u .reader) ≡ 0
 unfolding brokenLine
 answers-0 {n} {st} {m} {u} r = ap (λ (w : State). brokenLine (w .reader)) (r .is)
-
--- So a text has one reading.
-pub single : {n n′ : ℕ} {s : List ℕ} {pc sp sr pc′ sp′ sr′ : ℤ} {m m′ : List ℤ} → Image n s pc sp sr m → Image n′ s pc′ sp′ sr′ m′ → n < 18446744073709551615 → n′ < 18446744073709551615 → (startOf pc sp sr ≡ startOf pc′ sp′ sr′) × (m ≡ m′)
-single {n} {n′} {s} {pc} {sp} {sr} {pc′} {sp′} {sr′} {m} {m′} a b h h′ =
-    let p = complete a h .is in
-    let q = complete b h′ .is in
-    (ap (λ (u : State). u .reader .start) (sym p ∙ q), ap (λ (u : State). u .cells) (sym p ∙ q))

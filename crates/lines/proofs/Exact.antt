@@ -294,9 +294,9 @@ line-step {k} {c} {x} {y} {z} {s} {a} {f} st m b cs p e =
     let n = k + 1 in
     let b′ : b ≡ 10 = eqb-true b 10 e in
     let o : Outcome k st m ((s ++ a) ++ (10 ∷ [])) (lineEnd (state (at (k + 1) st c x y z f) m)) =
-        by-bool (f .digits && eqb c 3)
-        (λ t. let d = both (f .digits) (eqb c 3) t in ended st m cs p (d .0) (eqb-true c 3 (d .1)) t)
-        (λ t. to (ends-short n st m c x y z f t) (breaks refl refl)) in
+    by-bool (f .digits && eqb c 3)
+    (λ t. let d = both (f .digits) (eqb c 3) t in ended st m cs p (d .0) (eqb-true c 3 (d .1)) t)
+    (λ t. to (ends-short n st m c x y z f t) (breaks refl refl)) in
     to (ends n st m c x y z f b e) (subst (λ (j : ℕ). Outcome k st m ((s ++ a) ++ (j ∷ [])) (lineEnd (state (at (k + 1) st c x y z f) m))) (sym b′) o)
 
 -- a byte of `start,`
@@ -397,11 +397,11 @@ module _ (s : List ℕ) (b : ℕ) (fits : length s < 18446744073709551614) where
   extend : {u : State} → Known s u → Known (s ++ (b ∷ [])) (step u b)
   extend {u} a = go (a .part)
     where
-    go : Part (a .k) (a .st) (a .m) (a .q) u → Known (s ++ (b ∷ [])) (step u b)
-    go (alive w) = extended (a .q) (a .cut) (a .front) (a .few) refl (foldl-append step (a .r₀) (a .q) (b ∷ []) ∙ ap (λ (v : State). step v b) (a .reads)) (within-step b w)
-    go (dead′ h l) =
-        let e = dead-stays u b h in
-        extended (a .q) (a .cut) (a .front) (a .few) refl (foldl-append step (a .r₀) (a .q) (b ∷ []) ∙ ap (λ (v : State). step v b) (a .reads)) (breaks (ap (λ (v : State). v .reader .broken) e ∙ h) (ap (λ (v : State). v .reader .line) e ∙ l))
+      go : Part (a .k) (a .st) (a .m) (a .q) u → Known (s ++ (b ∷ [])) (step u b)
+      go (alive w) = extended (a .q) (a .cut) (a .front) (a .few) refl (foldl-append step (a .r₀) (a .q) (b ∷ []) ∙ ap (λ (v : State). step v b) (a .reads)) (within-step b w)
+      go (dead′ h l) =
+          let e = dead-stays u b h in
+          extended (a .q) (a .cut) (a .front) (a .few) refl (foldl-append step (a .r₀) (a .q) (b ∷ []) ∙ ap (λ (v : State). step v b) (a .reads)) (breaks (ap (λ (v : State). v .reader .broken) e ∙ h) (ap (λ (v : State). v .reader .line) e ∙ l))
 
 known-from : (t s : List ℕ) (u : State) → Known s u → length s + length t < 18446744073709551615 → Known (s ++ t) (foldl step u t)
 known-from [] s u a h = subst (λ (j : List ℕ). Known j u) (sym (append-nil s)) a
@@ -462,3 +462,99 @@ pub accepted : (s : List ℕ) → length s < 18446744073709551615 → brokenLine
 accepted s h e =
     let a = known s h in
     read-whole s (a .q) (a .cut) (a .front) (a .part) e
+
+part-line : {k : ℕ} {st : Start} {m : List ℤ} {q : List ℕ} {u : State} → Part k st m q u → u .reader .line ≡ k + 1
+part-line (dead′ h l) = l
+part-line (alive (opening i h)) = refl
+part-line (alive (fields cs r)) = refl
+
+front-of : {k : ℕ} {p : List ℕ} {st : Start} {m : List ℤ} {r₀ : State} → Began k p st m r₀ → Front k p
+front-of nothing = G.nothing
+front-of (lines i) = G.lines i
+
+-- a reader that stands at the start of a line answers 0, unless no line stands before
+some-left : {k : ℕ} {p : List ℕ} {st : Start} {m : List ℤ} {r₀ : State} → Began k p st m r₀ → (n : ℕ) → brokenLine (r₀ .reader) ≡ n + 1 → k ≡ 0
+unfolding brokenLine
+some-left nothing n e = refl
+some-left (lines i) n e = absurd (omega arith)
+
+-- no line in order stands in front of what was read onto a line without its end
+none-good : {k : ℕ} {p : List ℕ} {st : Start} {m : List ℤ} {r₀ : State} (l v : List ℕ) → Began k p st m r₀ → k < 18446744073709551614 → Good k l → foldl step r₀ (l ++ v) .reader .line ≡ k + 1 → ⊥
+none-good l v nothing h (G.first g) e =
+    let b = start-line g in
+    let w = fold-grows v (foldl step (state opened emptyCells) l) in
+    let o : foldl step (state opened emptyCells) l .reader .line ≡ 2 = ap (λ (u : State). u .reader .line) b in
+    let t = ap (λ (u : State). u .reader .line) (foldl-append step (state opened emptyCells) l v) in
+    omega arith
+none-good l v (lines {k = suc k} {pc = pc} {sp} {sr} {x} {y} {z} {m} i) h (G.later g) e =
+    let n = suc k + 1 in
+    let st = startOf pc sp sr in
+    let r = state (at n st 0 x y z noField) m in
+    let b = cell-line n st m x y z (omega arith) g in
+    let w = fold-grows v (foldl step r l) in
+    let o : foldl step r l .reader .line ≡ following n = ap (λ (u : State). u .reader .line) b in
+    let f = followed n (omega arith) in
+    let t = ap (λ (u : State). u .reader .line) (foldl-append step r l v) in
+    omega arith
+
+answer-line : (r : Reader) (n : ℕ) → brokenLine r ≡ n + 1 → r .line ≡ n + 1
+unfolding brokenLine
+answer-line r n e =
+    by-bool (r .broken || ((r .field .minus || r .field .digits) || ltb 0 (r .count)))
+    (λ t. rw t at e)
+    (λ t. absurd (let z : 0 ≡ n + 1 = rw t at e in omega arith))
+
+-- Where the answer is n + 1, that line breaks the form, and n lines in order stand before it.
+pub refused : (s : List ℕ) (n : ℕ) → length s < 18446744073709551614 → brokenLine (readText s .reader) ≡ n + 1 → Breaks n s
+refused s n h e =
+    let a = known s (omega arith) in
+    let l = part-line (a .part) in
+    let l′ = answer-line (readText s .reader) n e in
+    let k : a .k ≡ n = omega arith in
+    let d = a .reads in
+    let few = a .few in
+    subst (λ (j : ℕ). Breaks j s) k
+    (record {
+      p = a .p;
+      q = a .q;
+      cut = a .cut;
+      front = front-of (a .front);
+      left = λ z. some-left (a .front) n (ap (λ (u : State). brokenLine (u .reader)) (ap (foldl step (a .r₀)) (sym z) ∙ d) ∙ e);
+      none = λ i v z g. none-good i v (a .front) (omega arith) g (ap (λ (u : State). u .reader .line) (ap (foldl step (a .r₀)) (sym z) ∙ d) ∙ l);
+    })
+
+-- ---- a text has no more lines than bytes, so that a bound on its length is enough
+
+cell-long : {v : List ℕ} {n t f s : ℤ} → CellLine v n t f s → 1 ≤ length v
+cell-long (G.cellLine {a} {b} {c} {d} ra rb rc rd below good) = simp length-append (omega arith)
+
+cells-long : {k : ℕ} {v : List ℕ} {l m : List ℤ} → CellLines k v l m → k ≤ length v
+cells-long G.none = omega arith
+cells-long (G.more {k} {u} {v} cs c) =
+    let a = cells-long cs in
+    let b = cell-long c in
+    simp length-append (omega arith)
+
+start-long : {v : List ℕ} {pc sp sr : ℤ} → StartLine v pc sp sr → 1 ≤ length v
+start-long (G.startLine {a} {b} {c} ra rb rc okPc okSp) = simp length-append (omega arith)
+
+image-long : {n : ℕ} {s : List ℕ} {pc sp sr : ℤ} {m : List ℤ} → Image n s pc sp sr m → n ≤ length s
+image-long (G.image {k} {u} {v} a b) =
+    let x = start-long a in
+    let y = cells-long b in
+    simp length-append (omega arith)
+
+-- A text of the grammar is answered 0, and the reader holds its image.
+pub taken : {n : ℕ} {s : List ℕ} {pc sp sr : ℤ} {m : List ℤ} → length s < 18446744073709551615 → Image n s pc sp sr m → (brokenLine (readText s .reader) ≡ 0) × ((readText s .reader .start ≡ startOf pc sp sr) × (readText s .cells ≡ m))
+unfolding brokenLine
+taken {n} {s} {pc} {sp} {sr} {m} h i =
+    let l = image-long i in
+    let r = complete i (omega arith) .is in
+    (ap (λ (u : State). brokenLine (u .reader)) r, (ap (λ (u : State). u .reader .start) r, ap (λ (u : State). u .cells) r))
+
+-- So a text has one reading.
+pub one-reading : {n n′ : ℕ} {s : List ℕ} {pc sp sr pc′ sp′ sr′ : ℤ} {m m′ : List ℤ} → length s < 18446744073709551615 → Image n s pc sp sr m → Image n′ s pc′ sp′ sr′ m′ → (startOf pc sp sr ≡ startOf pc′ sp′ sr′) × (m ≡ m′)
+one-reading h a b =
+    let x = taken h a in
+    let y = taken h b in
+    (sym (x .1 .0) ∙ y .1 .0, sym (x .1 .1) ∙ y .1 .1)
