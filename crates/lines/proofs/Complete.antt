@@ -23,10 +23,10 @@ use Rattle.lines.specs.Reader.{noField, opened, limit, valueOf, letter, 
 use Rattle.lines.specs.Grammar.{Digits, Numeral, StartLine, CellLine, CellLines, Image}
 use Rattle.lines.specs.Grammar as G
 
-abbrev fieldOf : Bool → Bool → ℕ → Field
+abbrev pub fieldOf : Bool → Bool → ℕ → Field
 fieldOf b d m = record { minus = b; digits = d; magnitude = m }
 
-abbrev startOf : ℤ → ℤ → ℤ → Start
+abbrev pub startOf : ℤ → ℤ → ℤ → Start
 startOf pc sp sr = record { pc = pc; sp = sp; sr = sr }
 
 -- On line n, past k commas, the last three fields x, y and z, in the field f.
@@ -34,7 +34,7 @@ abbrev pub at : ℕ → Start → ℕ → ℤ → ℤ → ℤ → Field → Read
 at n st k x y z f =
     record { line = n; broken = false; opening = 6; count = k; last = record { x = x; y = y; z = z }; field = f; start = st }
 
-value-plus : (v : ℕ) → v ≤ 9223372036854775807 → valueOf false v ≡ pos v
+pub value-plus : (v : ℕ) → v ≤ 9223372036854775807 → valueOf false v ≡ pos v
 unfolding valueOf
 value-plus v h = toZ-pos w64 (omega arith)
 
@@ -46,7 +46,7 @@ value-least : valueOf true 9223372036854775808 ≡ negℤ (pos 92233720368547758
 unfolding valueOf wrap
 value-least = refl
 
-value-minus : (v : ℕ) → v ≤ 9223372036854775808 → valueOf true v ≡ negℤ (pos v)
+pub value-minus : (v : ℕ) → v ≤ 9223372036854775808 → valueOf true v ≡ negℤ (pos v)
 unfolding valueOf
 value-minus v h =
     ltb-elim v 9223372036854775808
@@ -110,7 +110,7 @@ module _ (n : ℕ) (st : Start) (l : List ℤ) (x y z : ℤ) where
   start-ended f w d v b s = rw (d, v, b, s)
 
 -- a line of a cell, from its start
-cell-line : (n : ℕ) (st : Start) (l : List ℤ) (x y z : ℤ) {s : List ℕ} {a t f w : ℤ} → (n ≡ 1 → ⊥) → CellLine s a t f w → foldl step (state (at n st 0 x y z noField) l) s ≡ state (at (following n) st 0 a t f noField) (putCell l (natAbs a) (cell t f w))
+pub cell-line : (n : ℕ) (st : Start) (l : List ℤ) (x y z : ℤ) {s : List ℕ} {a t f w : ℤ} → (n ≡ 1 → ⊥) → CellLine s a t f w → foldl step (state (at n st 0 x y z noField) l) s ≡ state (at (following n) st 0 a t f noField) (putCell l (natAbs a) (cell t f w))
 cell-line n st l x y z e (G.cellLine {a} {b} {c} {d} {n = na} {t = nt} {f = nf} {s = nw} ra rt rf rw′ below good) =
     let s₀ = state (at n st 0 x y z noField) l in
     let q = numeral-taken n st l 3 na nt nf rw′ in
@@ -129,7 +129,7 @@ unfolding step within openingByte letter
 word-taken = refl
 
 -- the first line
-start-line : {s : List ℕ} {pc sp sr : ℤ} → StartLine s pc sp sr → foldl step (state opened emptyCells) s ≡ state (at 2 (startOf pc sp sr) 0 (pos 0) pc sp noField) emptyCells
+pub start-line : {s : List ℕ} {pc sp sr : ℤ} → StartLine s pc sp sr → foldl step (state opened emptyCells) s ≡ state (at 2 (startOf pc sp sr) 0 (pos 0) pc sp noField) emptyCells
 start-line (G.startLine {a} {b} {c} {pc} {sp} {sr} ra rb rc okPc okSp) =
     let st = startOf (pos 0) (pos 0) (pos 0) in
     let l = emptyCells in
@@ -151,7 +151,7 @@ pub record Reached (n : ℕ) (st : Start) (m : List ℤ) (u : State) : Type 0 wh
   pub z : ℤ
   pub is : u ≡ state (at n st 0 x y z noField) m
 
-followed : (n : ℕ) → n < 18446744073709551615 → following n ≡ n + 1
+pub followed : (n : ℕ) → n < 18446744073709551615 → following n ≡ n + 1
 unfolding following
 followed n h = rw (lt-ltb n 18446744073709551615 h)
 
@@ -175,10 +175,3 @@ complete (G.image {k} {u} {v} {pc} {sp} {sr} {m} a b) h =
 pub answers-0 : {n : ℕ} {st : Start} {m : List ℤ} {u : State} → Reached n st m u → brokenLine (u .reader) ≡ 0
 unfolding brokenLine
 answers-0 {n} {st} {m} {u} r = ap (λ (w : State). brokenLine (w .reader)) (r .is)
-
--- So a text has one reading.
-pub single : {n n′ : ℕ} {s : List ℕ} {pc sp sr pc′ sp′ sr′ : ℤ} {m m′ : List ℤ} → Image n s pc sp sr m → Image n′ s pc′ sp′ sr′ m′ → n < 18446744073709551615 → n′ < 18446744073709551615 → (startOf pc sp sr ≡ startOf pc′ sp′ sr′) × (m ≡ m′)
-single {n} {n′} {s} {pc} {sp} {sr} {pc′} {sp′} {sr′} {m} {m′} a b h h′ =
-    let p = complete a h .is in
-    let q = complete b h′ .is in
-    (ap (λ (u : State). u .reader .start) (sym p ∙ q), ap (λ (u : State). u .cells) (sym p ∙ q))

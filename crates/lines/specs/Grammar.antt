@@ -41,3 +41,23 @@ pub data CellLines : ℕ → List ℕ → List ℤ → List ℤ → Type 0 where
 -- A whole text: its lines' number, pc, sp, sr and the cells, which were empty.
 pub data Image : ℕ → List ℕ → ℤ → ℤ → ℤ → List ℤ → Type 0 where
   image : {k : ℕ} {u v : List ℕ} {pc sp sr : ℤ} {m : List ℤ} → StartLine u pc sp sr → CellLines k v (replicate 6144 (pos 0)) m → Image (suc k) (u ++ v) pc sp sr m
+
+-- The first k lines of a text, in order.
+pub data Front : ℕ → List ℕ → Type 0 where
+  nothing : Front 0 []
+  lines : {k : ℕ} {p : List ℕ} {pc sp sr : ℤ} {m : List ℤ} → Image k p pc sp sr m → Front k p
+
+-- A line that may stand after k lines.
+pub data Good : ℕ → List ℕ → Type 0 where
+  first : {l : List ℕ} {pc sp sr : ℤ} → StartLine l pc sp sr → Good 0 l
+  later : {k : ℕ} {l : List ℕ} {n t f s : ℤ} → CellLine l n t f s → Good (suc k) l
+
+-- Line k + 1 is the lowest that breaks the form: k lines stand in order before it, what is left does not begin with a line in order, and
+-- there is something left or no line at all ("Empty input breaks line 1").
+pub record Breaks (k : ℕ) (s : List ℕ) : Type 0 where
+  pub p : List ℕ
+  pub q : List ℕ
+  pub cut : s ≡ p ++ q
+  pub front : Front k p
+  pub left : q ≡ [] → k ≡ 0
+  pub none : (l v : List ℕ) → q ≡ l ++ v → Good k l → ⊥
