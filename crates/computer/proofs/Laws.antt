@@ -1,16 +1,21 @@
 -- Laws of a step and of a run.
 use mathlib.Core.Path.{_≡_, refl, sym, ap, _∙_, subst}
-use mathlib.Core.Bool.{Bool, true, false, cond, true≢false}
+use mathlib.Core.Bool.{Bool, true, false, not, cond, _&&_, true≢false}
 use mathlib.Core.List.{List}
 use Prim.Native.Nat.{ℕ, zero, suc, _+_, _-_, _<_, _≤_}
 use native.Mathlib.Omega.{arith}
 use lib.IntN.{ℤ, pos}
 use lib.ListN.{length}
+use lib.Dec.{ltb}
+use borrow.Author.Tests.{ltb-true, ltb-false, lt-ltb}
 use Rattle.definition.specs.declared.Registers.{Registers}
 use Rattle.definition.specs.declared.Error.{Error}
+use Rattle.definition.specs.Constants.{CYCLES-END}
+use Rattle.definition.specs.Exception.{Ending, exception, stop, ending, HARDWARE-INTERRUPT, NO-HANDLER}
 use Rattle.definition.specs.Memory.{cellCount, empty}
-use Rattle.definition.specs.Registers.{refused}
+use Rattle.definition.specs.Registers.{refused, interruptEnable}
 use Rattle.definition.specs.Encoding.{Instruction}
+use Rattle.definition.specs.Io.{Console, with-marks, with-pending}
 use Rattle.definition.specs.Computer.{Core, core, Exec, Res, ok, err, andThen, _>>=_, return}
 use Rattle.definition.specs.Instructions.{Request, execute}
 use Rattle.definition.specs.Runtime as M
@@ -20,23 +25,18 @@ use Rattle.definition.proofs.Accepted.{OutcomeHas, step-accepted}
 use Rattle.memory.specs.Overlay.{overlay}
 use Rattle.memory.proofs.Laws.{over-none}
 use Rattle.registers.specs.Answer.{result, settled}
+use Rattle.instructions.specs.declared.Made.{Made}
 use Rattle.encoding.specs.Instr.{instrOf}
 use Rattle.console.specs.declared.ConsoleState.{ConsoleState}
 use Rattle.console.specs.State.{consoleOf}
 use Rattle.runtime.specs.declared.State.{State}
 use Rattle.runtime.specs.declared.fetch.Fetched.{Fetched}
 use Rattle.runtime.specs.declared.perform.Served.{Served}
+use Rattle.runtime.specs.declared.arrive.Performed.{Performed}
 use Rattle.runtime.specs.declared.arrive.Arrival.{Arrival}
 use Rattle.runtime.specs.declared.decide.Decision.{Decision}
-use Rattle.runtime.specs.Meaning.{machineAt, fetchedRes, Fetches, sent, saves, performedRes, kept, attempted, executedAt, Serves, turnOf, Concludes, outcomeAt, decidedAt, decidedOf, Decides}
-use Rattle.computer.specs.declared.Tried.{Tried}
-use Rattle.computer.specs.Meaning.{Ready, Attempts, Arrives}
-
-pub ready-of : (l : List ℤ) (q o : List ℕ) (m : State) → AcceptedMachine (machineAt l q o m) → Ready l q (m .k)
-ready-of l q o m a =
-    let h = a .console-in .written-in in
-    let k = a .console-in .small in
-    record { few = a .core-in .high; all-sound = a .core-in .cellsS; start-in = a .console-in .start-in; written-in = omega arith }
+use Rattle.runtime.specs.Meaning.{machineAt, fetchedRes, Fetches, sent, performedRes, concluded, kept, keptMade, attempted, executedAt, servedTurn, Serves, Concludes, outcomeAt, decidedOf, Decides}
+use Rattle.computer.specs.Meaning.{NEAR, quiet}
 
 -- ---- fetch and execute
 
@@ -60,58 +60,119 @@ module _ (l : List ℤ) (s : Registers) (f : Fetched) (h : Fetches l s f) where
   attempt-err e =
       ap (λ (r : Res Instruction). andThen r (λ (i : Instruction). (λ (c : Core). andThen (execute (i .op) (i .x) (i .y) (i .r₁) (i .r₂) c) (λ (q : Request). return (record { cost = i .cycles; request = q }))))) (fetched false e)
 
-  pub attempts-ok : (q : List ℕ) (size : ℕ) (k : ConsoleState) (r : Served) → f .ok ≡ true → Serves l q size (f .s) k (f .i) r → Attempts l q size s k (record { served = r; cost = f .i .cost })
-  attempts-ok q size k r e v =
-      record {
-        is = λ o t c n. v .is o t c n ∙ ap (λ (x : Res Executed). M.afterAttempt (machine c n (consoleOf k q o)) x) (attempt-ok e);
-        room = v .room;
-        cheap = h .cheap;
-      }
+  -- the step's turn, by what came of its instruction
+  pub turn-ok : (q o : List ℕ) (n : ℕ) (k : ConsoleState) (r : Served) → f .ok ≡ true → Serves l q (length o) (f .s) k (f .i) r → servedTurn l q o (machine (core l s) n (consoleOf k q o)) (f .i .cost) r ≡ M.turn (machine (core l s) n (consoleOf k q o))
+  unfolding M.turn
+  turn-ok q o n k r e v =
+      v .is o refl (core l s) n
+      ∙ ap (λ (x : Res Executed). M.afterAttempt (machine (core l s) n (consoleOf k q o)) x) (attempt-ok e)
 
-  pub attempts-err : cellCount l ≤ 10000 → (q : List ℕ) (size : ℕ) (k : ConsoleState) → f .ok ≡ false → Attempts l q size s k (record { served = record { full = false; e = kept (settled (f .s) (refused (f .error))) k }; cost = 0 })
-  unfolding M.afterAttempt M.conclude
-  attempts-err few q size k e =
-      record {
-        is = λ o t c n.
-            ap (λ (x : List ℤ). M.conclude 0 n (consoleOf k q o) (err (f .error) (core x (f .s)))) (over-none l 4294967295 empty (omega arith))
-            ∙ ap (λ (x : Res Executed). M.afterAttempt (machine c n (consoleOf k q o)) x) (attempt-err e);
-        room = λ _ t. absurd (true≢false (sym t));
-        cheap = omega arith;
-      }
+  pub turn-err : cellCount l ≤ 10000 → (q o : List ℕ) (n : ℕ) (k : ConsoleState) → f .ok ≡ false → concluded l q o (kept (settled (f .s) (refused (f .error))) k) (f .i .cost) n ≡ M.turn (machine (core l s) n (consoleOf k q o))
+  unfolding M.turn M.afterAttempt M.conclude
+  turn-err few q o n k e =
+      ap (λ (x : List ℤ). M.conclude (f .i .cost) n (consoleOf k q o) (err (f .error) (core x (f .s)))) (over-none l 4294967295 empty (omega arith))
+      ∙ ap (λ (x : Res Executed). M.afterAttempt (machine (core l s) n (consoleOf k q o)) x) (attempt-err e)
 
 -- ---- the step
 
-module _ (l : List ℤ) (q : List ℕ) (size : ℕ) (m : State) (w : Tried) (h : Attempts l q size (m .s) (m .k) w) where
-  pub arrives-full : cellCount l ≤ 10000 → w .served .full ≡ true → Arrives l q size m (record { enters = false; stops = true; number = 6; detail = 0; s = m .s; at = 4294967295; v = empty; cycles = m .cycles; k = m .k; sends = false; to = 0; byte = 0 })
-  unfolding M.turn
-  arrives-full few e =
-      record {
-        is = λ o t.
-            ap (λ (x : List ℤ). M.stops 6 0 (machine (core x (m .s)) (m .cycles) (consoleOf (m .k) q o))) (over-none l 4294967295 empty (omega arith))
-            ∙ sym (ap (λ (b : Bool). cond b (M.stops 6 0 (machineAt l q o m)) (M.conclude (w .cost) (m .cycles) (consoleOf (w .served .e .k) q (sent (w .served .e .sends) (w .served .e .to) (w .served .e .byte) o)) (performedRes l (w .served .e)))) e)
-            ∙ h .is o t (core l (m .s)) (m .cycles);
-        room = λ t. absurd (true≢false (sym t));
-        soon = omega arith;
-      }
+-- what is decided is what the turn settles to, saved left by stop 7
+pub finish-is : (l : List ℤ) (q o : List ℕ) (saved : State) (e : Performed) (cost cycles : ℕ) (a : Arrival) (d : Decision) → Concludes e cost cycles a → Decides l saved a d → decidedOf l q o d ≡ M.limit (machineAt l q o saved) (M.settle (concluded l q o e cost cycles))
+finish-is l q o saved e cost cycles a d c k = k .is q o ∙ ap (λ (x : M.Turn). M.limit (machineAt l q o saved) (M.settle x)) (c .is l q o)
 
-  pub arrives-on : (a : Arrival) → w .served .full ≡ false → Concludes (w .served .e) (w .cost) (m .cycles) a → Arrives l q size m a
-  unfolding M.turn
-  arrives-on a e c =
-      record {
-        is = λ o t.
-            c .is l q o
-            ∙ sym (ap (λ (b : Bool). cond b (M.stops 6 0 (machineAt l q o m)) (M.conclude (w .cost) (m .cycles) (consoleOf (w .served .e .k) q (sent (w .served .e .sends) (w .served .e .to) (w .served .e .byte) o)) (performedRes l (w .served .e)))) e)
-            ∙ h .is o t (core l (m .s)) (m .cycles);
-        room = λ t. subst (λ (n : ℕ). n < size) (sym (c .to-is)) (h .room e (sym (c .sends-is) ∙ t));
-        soon = (let x = c .soon in let y = h .cheap in omega arith);
-      }
+pub sends-in : (l : List ℤ) (size : ℕ) (saved : State) (e : Performed) (cost cycles : ℕ) (a : Arrival) (d : Decision) → Concludes e cost cycles a → Decides l saved a d → (e .sends ≡ true → e .to < size) → d .sends ≡ true → d .to < size
+sends-in l size saved e cost cycles a d c k room t =
+    let p = k .sends t in
+    subst (λ (n : ℕ). n < size) (sym (p .1 ∙ c .to-is)) (room (sym (c .sends-is) ∙ p .0))
 
-pub step-is : (l : List ℤ) (q o : List ℕ) (size : ℕ) (m : State) (a : Arrival) (d : Decision) → length o ≡ size → Arrives l q size m a → Decides l m a d → decidedOf l q o d ≡ M.step (machineAt l q o m)
-unfolding M.step
-step-is l q o size m a d t h k = k .is q o ∙ ap (λ (x : M.Turn). M.limit (machineAt l q o m) (M.settle x)) (h .is o t)
+-- where no byte waits
+pub no-byte : (e : Performed) {x : Performed} {size : ℕ} → e ≡ x → x .sends ≡ false → e .sends ≡ true → e .to < size
+no-byte e h n t = absurd (true≢false (sym t ∙ ap (λ (y : Performed). y .sends) h ∙ n))
 
-pub sends-in : (l : List ℤ) (q : List ℕ) (size : ℕ) (m : State) (a : Arrival) (d : Decision) → Arrives l q size m a → Decides l m a d → d .sends ≡ true → d .to < size
-sends-in l q size m a d h k e = let p = k .sends e in subst (λ (n : ℕ). n < size) (sym (p .1)) (h .room (p .0))
+-- a step adds at most its cost and one cycle
+recover-soon : (k : ℕ) (m : Machine) → M.reached (M.recover k m) .cycles ≤ m .cycles + 1
+unfolding M.recover M.reached M.entered
+recover-soon k m = go (M.hasHandler (m .core .cells))
+  where
+    go : (b : Bool) → M.reached (cond b (M.completed (M.entered k m)) (M.stopped NO-HANDLER k m)) .cycles ≤ m .cycles + 1
+    go true = omega arith
+    go false = omega arith
+
+ends-soon : (x : Ending) (m : Machine) → M.reached (M.settle (M.ends x m)) .cycles ≤ m .cycles + 1
+unfolding M.settle M.ends M.reached
+ends-soon (exception k) m = recover-soon k m
+ends-soon (stop n d) m = omega arith
+
+poll-soon : (m : Machine) → M.reached (M.settle (M.poll m)) .cycles ≤ m .cycles + 1
+unfolding M.settle M.poll M.reached
+poll-soon m = go (interruptEnable (m .core .regs) && m .console .marks .pending)
+  where
+    go : (b : Bool) → M.reached (M.settle (cond b (M.enters HARDWARE-INTERRUPT (machine (m .core) (m .cycles) (with-marks (with-pending false (m .console .marks)) (m .console)))) (M.completes m))) .cycles ≤ m .cycles + 1
+    go true = recover-soon HARDWARE-INTERRUPT _
+    go false = omega arith
+
+conclude-soon : (cost n : ℕ) (k : Console) (r : Res (Unit {0})) → M.reached (M.settle (M.conclude cost n k r)) .cycles ≤ n + cost + 1
+unfolding M.conclude
+conclude-soon cost n k (ok u c) = poll-soon (machine c (n + cost) k)
+conclude-soon cost n k (err e c) = let h = ends-soon (ending e) (machine c n k) in omega arith
+
+-- far from stop 7 it does not matter what stop 7 would leave
+limit-in : (m : Machine) (o : M.Outcome) → M.reached o .cycles < CYCLES-END → M.limit m o ≡ o
+unfolding M.limit
+limit-in m o h = rw (lt-ltb _ _ h)
+
+module _ (l : List ℤ) (q o : List ℕ) (m : State) where
+  abbrev before : Machine
+  before = machineAt l q o m
+
+  pub full-step : (cost : ℕ) (r : Served) → m .cycles < CYCLES-END → r .full ≡ true → servedTurn l q o before cost r ≡ M.turn before → M.stopped 6 0 before ≡ M.step before
+  unfolding M.step M.settle M.reached
+  full-step cost r c h e =
+      sym (limit-in before (M.stopped 6 0 before) c)
+      ∙ ap (λ (b : Bool). M.limit before (M.settle (cond b (M.stops 6 0 before) (concluded l q o (r .e) cost (m .cycles))))) (sym h)
+      ∙ ap (λ (t : M.Turn). M.limit before (M.settle t)) e
+
+  pub served-on : (cost : ℕ) (r : Served) → r .full ≡ false → servedTurn l q o before cost r ≡ M.turn before → concluded l q o (r .e) cost (m .cycles) ≡ M.turn before
+  served-on cost r h e =
+      ap (λ (b : Bool). cond b (M.stops 6 0 before) (concluded l q o (r .e) cost (m .cycles))) (sym h) ∙ e
+
+  -- the usual step
+  pub quiet-step : (cost : ℕ) (d : Made) → d .ok ≡ true → quiet (m .k) (m .cycles + cost) ≡ true → concluded l q o (keptMade d (m .k)) cost (m .cycles) ≡ M.turn before → M.completed (machineAt (overlay (d .p .at) (d .p .v) l) q o (record { s = d .p .s; cycles = m .cycles + cost; k = m .k })) ≡ M.step before
+  unfolding M.step M.settle M.reached M.conclude M.poll
+  quiet-step cost d h t e =
+      let p = quiet-parts (m .k .marks .pending) (ltb (m .cycles + cost) NEAR) t in
+      let n : m .cycles + cost < NEAR = ltb-true _ _ (p .1) in
+      let after : Machine = machineAt (overlay (d .p .at) (d .p .v) l) q o (record { s = d .p .s; cycles = m .cycles + cost; k = m .k }) in
+      let z : (interruptEnable (d .p .s) && m .k .marks .pending) ≡ false = ap (λ (b : Bool). interruptEnable (d .p .s) && b) (p .0) ∙ and-false (interruptEnable (d .p .s)) in
+      sym (limit-in before (M.completed after) (omega arith))
+      ∙ ap (λ (b : Bool). M.limit before (M.settle (cond b (M.enters HARDWARE-INTERRUPT (machine (after .core) (after .cycles) (with-marks (with-pending false (m .k .marks)) (after .console)))) (M.completes after)))) (sym z)
+      ∙ ap (λ (b : Bool). M.limit before (M.settle (M.conclude cost (m .cycles) (consoleOf (m .k) q o) (result tt b (d .error) (core (overlay (d .p .at) (d .p .v) l) (d .p .s)))))) (sym h)
+      ∙ ap (λ (x : M.Turn). M.limit before (M.settle x)) e
+    where
+      quiet-parts : (a b : Bool) → (not a && b) ≡ true → (a ≡ false) × (b ≡ true)
+      quiet-parts true b t = absurd (true≢false (sym t))
+      quiet-parts false b t = (refl, t)
+
+      and-false : (b : Bool) → (b && false) ≡ false
+      and-false true = refl
+      and-false false = refl
+
+  pub quiet-unwritten : (cost : ℕ) (d : Made) → cellCount l ≤ d .p .at → d .ok ≡ true → quiet (m .k) (m .cycles + cost) ≡ true → concluded l q o (keptMade d (m .k)) cost (m .cycles) ≡ M.turn before → M.completed (machineAt l q o (record { s = d .p .s; cycles = m .cycles + cost; k = m .k })) ≡ M.step before
+  quiet-unwritten cost d out h t e =
+      ap (λ (x : List ℤ). M.completed (machineAt x q o (record { s = d .p .s; cycles = m .cycles + cost; k = m .k }))) (sym (over-none l (d .p .at) (d .p .v) out))
+      ∙ quiet-step cost d h t e
+
+  -- any other
+  pub finished-step : (saved : State) (cost : ℕ) (e : Performed) → cost ≤ 3 → (NEAR ≤ m .cycles → saved ≡ m) → concluded l q o e cost (m .cycles) ≡ M.turn before → M.limit (machineAt l q o saved) (M.settle (concluded l q o e cost (m .cycles))) ≡ M.step before
+  unfolding M.step
+  finished-step saved cost e c k t = go (ltb (m .cycles) NEAR) refl ∙ ap (λ (x : M.Turn). M.limit before (M.settle x)) t
+    where
+      go : (b : Bool) → ltb (m .cycles) NEAR ≡ b → M.limit (machineAt l q o saved) (M.settle (concluded l q o e cost (m .cycles))) ≡ M.limit before (M.settle (concluded l q o e cost (m .cycles)))
+      go true h =
+          let n : m .cycles < NEAR = ltb-true _ _ h in
+          let z = conclude-soon cost (m .cycles) (consoleOf (e .k) q (sent (e .sends) (e .to) (e .byte) o)) (performedRes l e) in
+          limit-in _ _ (omega arith) ∙ sym (limit-in _ _ (omega arith))
+      go false h =
+          ap (λ (x : State). M.limit (machineAt l q o x) (M.settle (concluded l q o e cost (m .cycles)))) (k (ltb-false _ _ h))
 
 -- ---- the run
 

@@ -1,26 +1,20 @@
 // Computer::step and Computer::run of mod.rs, over lent cells, queue and output record.
 use console::ConsoleState;
-use definition::Cell;
 use definition::Registers;
 use encoding::costs::COSTS;
 use runtime::State;
-use runtime::arrive::Arrival;
-use runtime::perform::Served;
+use runtime::arrive::Performed;
 ghost use mathlib.Core.Path.{_≡_};
 ghost use mathlib.Core.Bool.{true, false};
-ghost use Prim.Native.Nat.{_<_, _^_};
-ghost use lib.IntN.{pos};
-ghost use Rattle.definition.specs.Runtime.{step, run};
+ghost use mathlib.Core.List.{List};
+ghost use Prim.Native.Nat.{ℕ, _<_, _≤_, _^_};
+ghost use lib.ListN.{length};
+ghost use Rattle.definition.specs.Memory.{cellCount};
+ghost use Rattle.definition.specs.Runtime.{limit, settle, step, run};
 ghost use Rattle.definition.proofs.Row.{AcceptedMachine};
 ghost use Rattle.encoding.specs.Table.{costTable};
-ghost use Rattle.runtime.specs.Meaning.{machineAt, outcomeAt};
-ghost use Rattle.computer.specs.Meaning.{Ready, Attempts, Arrives, endedOf};
-
-// An instruction fetched and executed, and its cost.
-pub struct Tried {
-    pub served: Served,
-    pub cost: u64,
-}
+ghost use Rattle.runtime.specs.Meaning.{machineAt, outcomeAt, concluded};
+ghost use Rattle.computer.specs.Meaning.{NEAR, quiet, endedOf};
 
 // Where a step got: completed, or a stop with its detail.
 pub struct Stepped {
@@ -38,91 +32,56 @@ pub struct Ended {
     pub m: State,
 }
 
-// Fetch and execute. A fetch that fails costs nothing.
-fn attempt(
-    cells: &[i64],
-    queue: &[u8],
-    size: usize,
-    costs: &[u8; 1188],
-    s: Registers,
-    k: ConsoleState,
-) -> Tried
-    requires { do ⌜ Ready (now cells) (now queue) k ⌝; ⌜ now costs ≡ costTable ⌝ }
-    ensures { λ r. ⌜ Attempts (now (cells .entry)) (now (queue .entry)) size s k r ⌝ }
+// No interrupt is due, and no step that ends with so many cycles is near stop 7.
+fn is_quiet(k: ConsoleState, cycles: u64) -> bool
+    ensures { λ r. ⌜ r ≡ quiet k cycles ⌝ }
 {
-    let f = runtime::fetch::fetch(cells, costs, s);
-    let t = f.s;
-    if f.ok {
-        let i = f.i;
-        let served = runtime::perform::perform(cells, queue, size, t, k, i);
-        return Tried {
-            served,
-            cost: i.cost,
-        };
+    let marks = k.marks;
+    if marks.pending {
+        return false;
     }
-    let error = f.error;
-    Tried {
-        served: runtime::perform::failed(t, error, k),
-        cost: 0,
+    cycles < 0x4000_0000_0000_0000
+}
+
+// A step that completes without exception entry.
+fn completes(s: Registers, cycles: u64, k: ConsoleState) -> Stepped
+    ensures { λ r. ⌜ r ≡ record { completed = true; stop = 0; detail = 0; m = record { s = s; cycles = cycles; k = k } } ⌝ }
+{
+    let m = State { s, cycles, k };
+    Stepped {
+        completed: true,
+        stop: 0,
+        detail: 0,
+        m,
     }
 }
 
 // Stop 6: the machine before the step.
-fn unsent(m: State) -> Arrival
-    ensures { λ r. ⌜ r ≡ record { enters = false; stops = true; number = 6; detail = 0; s = m .s; at = 4294967295; v = record { tag = pos 0; first = pos 0; second = pos 0 }; cycles = m .cycles; k = m .k; sends = false; to = 0; byte = 0 } ⌝ }
+fn output_full(m: State) -> Stepped
+    ensures { λ r. ⌜ r ≡ record { completed = false; stop = 6; detail = 0; m = m } ⌝ }
 {
-    let s = m.s;
-    let k = m.k;
-    let v = Cell {
-        tag: 0,
-        first: 0,
-        second: 0,
-    };
-    Arrival {
-        enters: false,
-        stops: true,
-        number: 6,
+    Stepped {
+        completed: false,
+        stop: 6,
         detail: 0,
-        s,
-        at: 4294967295,
-        v,
-        cycles: m.cycles,
-        k,
-        sends: false,
-        to: 0,
-        byte: 0,
+        m,
     }
 }
 
-// The step up to exception entry.
-fn arrive(cells: &[i64], queue: &[u8], size: usize, costs: &[u8; 1188], m: State) -> Arrival
-    requires { do ⌜ Ready (now cells) (now queue) (m .k) ⌝; ⌜ m .cycles < 2 ^ 63 ⌝; ⌜ now costs ≡ costTable ⌝ }
-    ensures { λ r. ⌜ Arrives (now (cells .entry)) (now (queue .entry)) size m r ⌝ }
-{
-    let s = m.s;
-    let k = m.k;
-    let w = attempt(cells, queue, size, costs, s, k);
-    let served = w.served;
-    if served.full {
-        return unsent(m);
-    }
-    let e = served.e;
-    runtime::arrive::conclude(e, w.cost, m.cycles)
-}
-
-// Computer::step
-pub fn step(
+// The rest of the step, whatever the instruction e came to: poll, exception entry, stop 7, which leaves `saved`.
+fn finish(
     cells: &mut [i64],
-    queue: &[u8],
     output: &mut [u8],
-    costs: &[u8; 1188],
-    m: State,
+    saved: State,
+    e: Performed,
+    cost: u64,
+    cycles: u64,
 ) -> Stepped
-    requires { do ⌜ AcceptedMachine (machineAt (now cells) (now queue) (now output) m) ⌝; ⌜ now costs ≡ costTable ⌝ }
-    ensures { λ r. ⌜ outcomeAt (r .completed) (r .stop) (r .detail) (machineAt (now (cells .exit)) (now (queue .entry)) (now (output .exit)) (r .m)) ≡ step (machineAt (now (cells .entry)) (now (queue .entry)) (now (output .entry)) m) ⌝ }
+    requires { do ⌜ (256 ≤ cellCount (now cells)) × (cellCount (now cells) ≤ 10000) ⌝; ⌜ (cycles < 2 ^ 63) × (cost ≤ 3) ⌝; ⌜ (e .sends ≡ true → e .to < length (now output)) ⌝ }
+    ensures { λ r. ⌜ ((q : List ℕ) → outcomeAt (r .completed) (r .stop) (r .detail) (machineAt (now (cells .exit)) q (now (output .exit)) (r .m)) ≡ limit (machineAt (now (cells .entry)) q (now (output .entry)) saved) (settle (concluded (now (cells .entry)) q (now (output .entry)) e cost cycles))) ⌝ }
 {
-    let a = arrive(cells, queue, output.len(), costs, m);
-    let d = runtime::decide::decide(cells, m, a);
+    let a = runtime::arrive::conclude(e, cost, cycles);
+    let d = runtime::decide::decide(cells, saved, a);
     let v = d.v;
     let after = d.m;
     runtime::entry::write_over(cells, d.at, v);
@@ -136,6 +95,59 @@ pub fn step(
     }
 }
 
+// Computer::step. `saved` is m wherever stop 7 could come. An instruction that leaves nothing else to do is the usual case, and goes first.
+pub fn step(
+    cells: &mut [i64],
+    queue: &[u8],
+    output: &mut [u8],
+    costs: &[u8; 1188],
+    saved: State,
+    m: State,
+) -> Stepped
+    requires { do ⌜ AcceptedMachine (machineAt (now cells) (now queue) (now output) m) ⌝; ⌜ now costs ≡ costTable ⌝; ⌜ (NEAR ≤ m .cycles → saved ≡ m) ⌝ }
+    ensures { λ r. ⌜ outcomeAt (r .completed) (r .stop) (r .detail) (machineAt (now (cells .exit)) (now (queue .entry)) (now (output .exit)) (r .m)) ≡ step (machineAt (now (cells .entry)) (now (queue .entry)) (now (output .entry)) m) ⌝ }
+{
+    let s = m.s;
+    let k = m.k;
+    let f = runtime::fetch::fetch(cells, costs, s);
+    let t = f.s;
+    let i = f.i;
+    let error = f.error;
+    let n = m.cycles + i.cost;
+    let mut e = runtime::perform::keep(registers::refuse(t, error), k);
+    if f.ok {
+        let op = i.op;
+        let x = i.x;
+        let y = i.y;
+        if instructions::is_asker(op) {
+            let served = runtime::perform::ask(cells, queue, output.len(), t, k, i);
+            if served.full {
+                return output_full(m);
+            }
+            e = served.e;
+        } else {
+            let d = instructions::execute(cells, t, op, x, y);
+            let p = d.p;
+            let u = p.s;
+            if d.ok {
+                if p.at == 4294967295 {
+                    if is_quiet(k, n) {
+                        return completes(u, n, k);
+                    }
+                } else {
+                    if is_quiet(k, n) {
+                        let v = p.v;
+                        runtime::entry::write_over(cells, p.at, v);
+                        return completes(u, n, k);
+                    }
+                }
+            }
+            e = runtime::perform::keep_made(d, k);
+        }
+    }
+    finish(cells, output, saved, e, i.cost, m.cycles)
+}
+
 // Computer::run, on a budget.
 pub fn run(cells: &mut [i64], queue: &[u8], output: &mut [u8], m: State, budget: u32) -> Ended
     requires { do ⌜ AcceptedMachine (machineAt (now cells) (now queue) (now output) m) ⌝ }
@@ -143,11 +155,15 @@ pub fn run(cells: &mut [i64], queue: &[u8], output: &mut [u8], m: State, budget:
 {
     let costs = &COSTS;
     let mut t = m;
+    let mut saved = m;
     let mut steps: u32 = 0;
     while steps < budget {
-        let u = step(cells, queue, output, costs, t);
+        let u = step(cells, queue, output, costs, saved, t);
         t = u.m;
         if u.completed {
+            if 0x4000_0000_0000_0000 <= t.cycles {
+                saved = t;
+            }
             steps += 1;
         } else {
             return Ended {

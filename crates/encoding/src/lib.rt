@@ -46,7 +46,7 @@ pub fn is_legal(costs: &[u8; 1188], k: usize) -> bool
 // What t, an instruction's tag less 2, says of the instruction.
 pub fn decode(costs: &[u8; 1188], t: u32, first: i64, second: i64) -> Instr
     requires { ⌜ (t < 29700) × (now costs ≡ costTable) ⌝ }
-    ensures { λ r. ⌜ instrOf r ≡ decode t first second ⌝ }
+    ensures { λ r. ⌜ (instrOf r ≡ decode t first second) × (r .op < 33) ⌝ }
 {
     let k = t / 25;
     let r = t % 25;

@@ -41,13 +41,15 @@ endingOf r = cond (r .exception) (exception (r .number)) (stop (r .number) (r .d
 abbrev pub fetchedRes : List ℤ → Fetched → Res Instruction
 fetchedRes l r = result (instrOf (r .i)) (r .ok) (r .error) (core l (r .s))
 
--- The cell v decoded, whatever the cells are. An instruction costs at most 3.
+-- The cell v decoded, whatever the cells are. There are 33 operations, and an instruction costs at most 3.
 pub record Decodes (s : Registers) (r : Fetched) (v : Cell) : Type 0 where
   pub is : (l : List ℤ) → fetchedRes l r ≡ orInstruction (extractInstruction v) (core l s)
+  pub known : r .i .op < 33
   pub cheap : r .i .cost ≤ 3
 
 pub record Fetches (l : List ℤ) (s : Registers) (r : Fetched) : Type 0 where
   pub is : fetchedRes l r ≡ M.fetch (core l s)
+  pub known : r .i .op < 33
   pub cheap : r .i .cost ≤ 3
 
 -- ---- up to exception entry
@@ -72,8 +74,13 @@ turnAt enters stops n d m = cond enters (M.enters n m) (cond stops (M.stops n d 
 abbrev pub turnOf : List ℤ → List ℕ → List ℕ → Arrival → M.Turn
 turnOf l q o a = turnAt (a .enters) (a .stops) (a .number) (a .detail) (arrivedAt l q o a)
 
+-- The executed instruction e, with its cost, from so many cycles on.
+abbrev pub concluded : List ℤ → List ℕ → List ℕ → Performed → ℕ → ℕ → M.Turn
+concluded l q o e cost cycles =
+    M.conclude cost cycles (consoleOf (e .k) q (sent (e .sends) (e .to) (e .byte) o)) (performedRes l e)
+
 pub record Concludes (e : Performed) (cost cycles : ℕ) (a : Arrival) : Type 0 where
-  pub is : (l : List ℤ) (q o : List ℕ) → turnOf l q o a ≡ M.conclude cost cycles (consoleOf (e .k) q (sent (e .sends) (e .to) (e .byte) o)) (performedRes l e)
+  pub is : (l : List ℤ) (q o : List ℕ) → turnOf l q o a ≡ concluded l q o e cost cycles
   pub sends-is : a .sends ≡ e .sends
   pub to-is : a .to ≡ e .to
   pub soon : a .cycles ≤ cycles + cost
@@ -99,7 +106,7 @@ executedAt l s i = execute (instrOf i .op) (instrOf i .x) (instrOf i .y) (instrO
 -- Stop 6 leaves m, the machine before the step.
 abbrev pub servedTurn : List ℤ → List ℕ → List ℕ → Machine → ℕ → Served → M.Turn
 servedTurn l q o m cost r =
-    cond (r .full) (M.stops OUTPUT-FULL 0 m) (M.conclude cost (m .cycles) (consoleOf (r .e .k) q (sent (r .e .sends) (r .e .to) (r .e .byte) o)) (performedRes l (r .e)))
+    cond (r .full) (M.stops OUTPUT-FULL 0 m) (concluded l q o (r .e) cost (m .cycles))
 
 -- The output record has this size; c and n are any cells, registers and cycles of the machine before the step.
 pub record Serves (l : List ℤ) (q : List ℕ) (size : ℕ) (s : Registers) (k : ConsoleState) (i : Instr) (r : Served) : Type 0 where

@@ -22,7 +22,7 @@ pub struct Fetched {
 }
 
 fn no_instruction() -> Instr
-    ensures { λ r. ⌜ r .cost ≡ 0 ⌝ }
+    ensures { λ r. ⌜ (r .op ≡ 0) × (r .cost ≡ 0) ⌝ }
 {
     let x = Arg {
         mode: 0,

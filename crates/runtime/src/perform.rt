@@ -14,8 +14,6 @@ ghost use Prim.Native.Nat.{ℕ, _<_, _≤_};
 ghost use Rattle.definition.specs.Constants.{CELLS-MOST};
 ghost use Rattle.definition.specs.Memory.{cellCount};
 ghost use Rattle.instructions.specs.Plan.{asker};
-ghost use Rattle.definition.specs.Registers.{refused};
-ghost use Rattle.registers.specs.Answer.{settled};
 ghost use Rattle.runtime.specs.Meaning.{Serves, kept, keptMade};
 
 // An executed instruction, or `full`: it would write a byte past the output record.
@@ -25,7 +23,7 @@ pub struct Served {
 }
 
 // An instruction that writes no cell and leaves the console k.
-fn keep(q: Put, k: ConsoleState) -> Performed
+pub fn keep(q: Put, k: ConsoleState) -> Performed
     ensures { λ r. ⌜ r ≡ kept q k ⌝ }
 {
     let error = q.error;
@@ -49,7 +47,7 @@ fn keep(q: Put, k: ConsoleState) -> Performed
 }
 
 // One that may write a cell.
-fn keep_made(d: Made, k: ConsoleState) -> Performed
+pub fn keep_made(d: Made, k: ConsoleState) -> Performed
     ensures { λ r. ⌜ r ≡ keptMade d k ⌝ }
 {
     let error = d.error;
@@ -128,7 +126,14 @@ fn output(
 }
 
 // in or out.
-fn ask(cells: &[i64], queue: &[u8], size: usize, s: Registers, k: ConsoleState, i: Instr) -> Served
+pub fn ask(
+    cells: &[i64],
+    queue: &[u8],
+    size: usize,
+    s: Registers,
+    k: ConsoleState,
+    i: Instr,
+) -> Served
     requires { do ⌜ (cellCount (now cells) ≤ CELLS-MOST) × ((k .start < length (now queue)) × (k .written ≤ 65536)) ⌝; ⌜ asker (i .op) ≡ true ⌝ }
     ensures { λ r. ⌜ Serves (now (cells .entry)) (now (queue .entry)) size s k i r ⌝ }
 {
@@ -137,34 +142,4 @@ fn ask(cells: &[i64], queue: &[u8], size: usize, s: Registers, k: ConsoleState, 
         return input(cells, queue, s, k, i);
     }
     output(cells, queue, size, s, k, i)
-}
-
-pub fn perform(
-    cells: &[i64],
-    queue: &[u8],
-    size: usize,
-    s: Registers,
-    k: ConsoleState,
-    i: Instr,
-) -> Served
-    requires { do ⌜ (cellCount (now cells) ≤ CELLS-MOST) × ((k .start < length (now queue)) × (k .written ≤ 65536)) ⌝ }
-    ensures { λ r. ⌜ Serves (now (cells .entry)) (now (queue .entry)) size s k i r ⌝ }
-{
-    let op = i.op;
-    let x = i.x;
-    let y = i.y;
-    if instructions::is_writer(op) {
-        return done(keep_made(instructions::execute_write(cells, s, op, x, y), k));
-    }
-    if instructions::is_asker(op) {
-        return ask(cells, queue, size, s, k, i);
-    }
-    done(keep(instructions::execute(cells, s, op, x, y), k))
-}
-
-// A fetch that failed leaves the registers s.
-pub fn failed(s: Registers, error: Error, k: ConsoleState) -> Served
-    ensures { λ r. ⌜ r ≡ record { full = false; e = kept (settled s (refused error)) k } ⌝ }
-{
-    done(keep(registers::refuse(s, error), k))
 }

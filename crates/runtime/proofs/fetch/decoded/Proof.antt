@@ -30,7 +30,7 @@ returns : tie.Need-returns
 unfolding extractInstruction orInstruction
 returns c = let a = c .before .before .before .args in let v = a .v in
     let h : ltZ (v .tag) (pos 2) ≡ true = rw (back (v .tag) (c .before .before .struct-told .given .0 .1)) at (c .before .if1 .taken) in
-    record { is = λ (l : List ℤ). sym (ap (λ (x : Extracted). orInstruction x (core l (a .s))) (not-code (v .tag) (v .first) (v .second) h)); cheap = (let z = c .no-instruction .ensures in omega arith) }
+    record { is = λ (l : List ℤ). sym (ap (λ (x : Extracted). orInstruction x (core l (a .s))) (not-code (v .tag) (v .first) (v .second) h)); known = (let z = c .no-instruction .ensures .0 in omega arith); cheap = (let z = c .no-instruction .ensures .1 in omega arith) }
 
 -- src/fetch.rt:42:74
 cast-decode : tie.Need-cast-decode
@@ -60,8 +60,8 @@ returns-2 c = let a = c .before .before .before .before .before .args in let v =
     let g = c .before .before .before .before .struct-told .given in
     let b = back (v .tag) (g .0 .1) in
     let h : ltZ (v .tag) (pos 2) ≡ false = rw b at (c .before .before .before .if1 .left) in
-    let e = rw (b, back (v .first) (g .1 .0 .1), back (v .second) (g .1 .1 .0 .1)) at (c .decode .ensures) in
-    record { is = λ (l : List ℤ). ap (λ (i : Instruction). ok i (core l (a .s))) e ∙ sym (ap (λ (x : Extracted). orInstruction x (core l (a .s))) (is-code (v .tag) (v .first) (v .second) h)); cheap = (let z = ap (λ (i : Instruction). i .cycles) e in let b = decode-small (natAbs (v .tag) - 2) (v .first) (v .second) in omega arith) }
+    let e = rw (b, back (v .first) (g .1 .0 .1), back (v .second) (g .1 .1 .0 .1)) at (c .decode .ensures .0) in
+    record { is = λ (l : List ℤ). ap (λ (i : Instruction). ok i (core l (a .s))) e ∙ sym (ap (λ (x : Extracted). orInstruction x (core l (a .s))) (is-code (v .tag) (v .first) (v .second) h)); known = c .decode .ensures .1; cheap = (let z = ap (λ (i : Instruction). i .cycles) e in let b = decode-small (natAbs (v .tag) - 2) (v .first) (v .second) in omega arith) }
 
 pub decoded-spec : {M : Type 1} → statement M
 decoded-spec =

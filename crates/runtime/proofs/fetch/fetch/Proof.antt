@@ -36,7 +36,7 @@ decoded-requires c κs = let a = c .before .before .args in let h : a .s .pc < c
 -- src/fetch.rt:55:9
 returns : tie.Need-returns
 returns c = let a = c .before .before .before .args in let l = a .cells .now in let h : a .s .pc < cellCount l = omega arith in
-    record { is = c .decoded .ensures .is l ∙ ap (λ (v : Cell). orInstruction (extractInstruction v) (core l (with-pc (a .s .pc + 1) (a .s)))) (c .before .get-cell .ensures) ∙ fetch-in l (a .s) h; cheap = c .decoded .ensures .cheap }
+    record { is = c .decoded .ensures .is l ∙ ap (λ (v : Cell). orInstruction (extractInstruction v) (core l (with-pc (a .s .pc + 1) (a .s)))) (c .before .get-cell .ensures) ∙ fetch-in l (a .s) h; known = c .decoded .ensures .known; cheap = c .decoded .ensures .cheap }
 
 -- src/fetch.rt:57:64
 no-instruction-requires : tie.Need-no-instruction-requires
@@ -44,7 +44,7 @@ no-instruction-requires c κs = search needs
 
 -- src/fetch.rt:46:1
 returns-2 : tie.Need-returns-2
-returns-2 c = let a = c .before .before .args in record { is = fetch-out (a .cells .now) (a .s) (omega arith); cheap = (let z = c .no-instruction .ensures in omega arith) }
+returns-2 c = let a = c .before .before .args in record { is = fetch-out (a .cells .now) (a .s) (omega arith); known = (let z = c .no-instruction .ensures .0 in omega arith); cheap = (let z = c .no-instruction .ensures .1 in omega arith) }
 
 pub fetch-spec : {M : Type 1} → statement M
 fetch-spec =
