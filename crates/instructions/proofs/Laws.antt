@@ -1,14 +1,12 @@
 -- The instructions, by what their operands gave: hypotheses on the pure functions, conclusion one step.
 use mathlib.Core.Path.{_≡_, refl, sym, ap, _∙_}
-use mathlib.Core.Bool.{Bool, true, false, _&&_, _||_, true≢false}
+use mathlib.Core.Bool.{Bool, true, false, true≢false}
 use mathlib.Core.List.{List}
 use Prim.Native.Nat.{ℕ, zero, suc, _+_, _-_, _<_, _≤_}
 use native.Mathlib.Numerals.{add-one}
 use native.Mathlib.Omega.{arith}
 use lib.IntN.{ℤ, pos}
-use lib.Dec.{leb, eqb}
-use lib.ListN.{List·getD-eq-default}
-use borrow.Author.Tests.{ltb-true, leb-true, lt-ltb, le-ltb, eqb-true, ne-eqb}
+use borrow.Author.Tests.{ltb-true, lt-ltb, le-ltb}
 use Rattle.definition.specs.declared.Cell.{Cell}
 use Rattle.definition.specs.declared.Registers.{Registers}
 use Rattle.definition.specs.declared.Word.{Word}
@@ -17,7 +15,7 @@ use Rattle.definition.specs.declared.Address.{Address}
 use Rattle.definition.specs.declared.Address.the-variants.{At, NotAddress}
 use Rattle.definition.specs.declared.Found.the-variants.{Here, Outside}
 use Rattle.definition.specs.declared.Error.{Error}
-use Rattle.definition.specs.declared.Error.the-variants.{PrivilegedInstruction, InvalidMemoryAccess, CellError, Extract, Reset, Trap}
+use Rattle.definition.specs.declared.Error.the-variants.{PrivilegedInstruction, InvalidMemoryAccess, CellError, Extract, Reset}
 use Rattle.definition.specs.Constants.{ZERO, NEGATIVE, CELLS-MOST}
 use Rattle.definition.specs.Word.{bit}
 use Rattle.definition.specs.Memory.{word, empty, cellCount, get, extractWord, extractAddress, asAddress}
@@ -25,9 +23,8 @@ use Rattle.definition.specs.Registers as R
 use Rattle.definition.specs.Registers.{Reg, regAt, getReg, putReg, assigned, refused, supervisor, with-pc, with-sp, with-sr}
 use Rattle.definition.specs.Arguments.{Operand, operand, resolve}
 use Rattle.definition.specs.Computer.{Core, Exec, core, ok, err, andThen, branch, return, orWord, orAddress, orCell, orPut, write, push, pop, below, checkPrivileged}
-use Rattle.definition.specs.Encoding.{Op, TRAP, ops, opAt}
+use Rattle.definition.specs.Encoding.{opAt}
 use Rattle.definition.specs.Instructions.{execute, jump, jumpIf, call, rtn, popOp, pushOp, ld, st, fas, swapBack, swap, rti, reset, nothing, reads, writes, quiet, inOp, outOp}
-use Rattle.word.proofs.Laws.{ltb-elim}
 use Rattle.memory.specs.Overlay.{overlay}
 use Rattle.memory.proofs.Laws.{get-here, over-in, over-none}
 use Rattle.registers.specs.declared.Put.{Put}
@@ -36,8 +33,8 @@ use Rattle.arguments.specs.declared.Arg.{Arg}
 use Rattle.arguments.specs.By.{argOf, resolveBy, extractBy, wordBy}
 use Rattle.arguments.proofs.Laws.{resolve-by, extract-by, word-by}
 use Rattle.instructions.specs.declared.Made.{Made}
-use Rattle.instructions.specs.Jumps.{jumper, testAt}
-use Rattle.instructions.specs.Plan.{planned, coreOf, made, madeRes, unwritten, writer, rtiSr}
+use Rattle.instructions.specs.Jumps.{testAt}
+use Rattle.instructions.specs.Plan.{planned, coreOf, made, madeRes, unwritten, asker, rtiSr}
 
 -- what the code finds for an operand
 abbrev foundAddress : Arg → Registers → Address
@@ -45,6 +42,14 @@ foundAddress x s = resolveBy (x .mode) (getReg (regAt (x .reg)) s) (x .number)
 
 abbrev foundWord : Arg → List ℤ → Registers → Word
 foundWord x l s = wordBy (x .mode) (getReg (regAt (x .reg)) s) (x .number) l
+
+-- nothing to be written: the answer is the registers' alone
+module _ (l : List ℤ) (h : cellCount l ≤ CELLS-MOST) where
+  pub made-none : {X : Type 0} (v : X) (q : Put) → made v l (unwritten q) ≡ answer v l q
+  made-none v q = ap (λ (m : List ℤ). answer v m q) (over-none l 4294967295 empty (omega arith))
+
+  pub none-written : (q : Put) → madeRes l (unwritten q) ≡ putRes l q
+  none-written q = made-none tt q
 
 -- a quiet instruction asks for nothing
 quiet-is : (m : Exec (Unit {0})) (c c' : Core) (b : Bool) (e : Error) → result tt b e c' ≡ m c → result nothing b e c' ≡ quiet m c
@@ -59,30 +64,21 @@ module _ (l : List ℤ) (c : Core) (m : Exec (Unit {0})) where
   pub quiet-made : (d : Made) → madeRes l d ≡ m c → made nothing l d ≡ quiet m c
   quiet-made d h = quiet-is m c (coreOf l (d .p)) (d .ok) (d .error) h
 
--- an operation's number; past the last is trap
-module _ (x y : Operand) (r t : Reg) (c : Core) where
-  pub op-is : (n k : ℕ) → n ≡ k → execute (opAt k) x y r t c ≡ execute (opAt n) x y r t c
-  op-is n k h = ap (λ (m : ℕ). execute (opAt m) x y r t c) (sym h)
+  pub quiet-none : cellCount l ≤ CELLS-MOST → (q : Put) {d : Made} → d ≡ unwritten q → putRes l q ≡ m c → made nothing l d ≡ quiet m c
+  quiet-none f q e h = ap (made nothing l) e ∙ made-none l f nothing q ∙ quiet-put q h
 
-  pub op-trap : (n : ℕ) → (n < 33 → n ≡ 31) → err Trap c ≡ execute (opAt n) x y r t c
-  unfolding execute quiet andThen opAt
-  op-trap n h = ltb-elim n 33 (λ b k. op-is n 31 (h k)) (λ b k. ap (λ (o : Op). execute o x y r t c) (sym (List·getD-eq-default ops TRAP {n = n} k)))
+-- an operation's number
+pub op-is : (x y : Operand) (r t : Reg) (c : Core) (n k : ℕ) → n ≡ k → execute (opAt k) x y r t c ≡ execute (opAt n) x y r t c
+op-is x y r t c n k h = ap (λ (m : ℕ). execute (opAt m) x y r t c) (sym h)
 
 -- a jump by its number
 module _ (x y : Operand) (r t : Reg) (l : List ℤ) (s : Registers) where
-  pub jump-op : (o : ℕ) → jumper o ≡ true → quiet (λ c. branch (testAt o (bit ZERO (s .sr)) (bit NEGATIVE (s .sr))) (jump x) (return tt) c) (core l s) ≡ execute (opAt o) x y r t (core l s)
+  pub jump-op : (o : ℕ) → 7 ≤ o → o < 14 → quiet (λ c. branch (testAt o (bit ZERO (s .sr)) (bit NEGATIVE (s .sr))) (jump x) (return tt) c) (core l s) ≡ execute (opAt o) x y r t (core l s)
   unfolding execute opAt quiet andThen jumpIf branch testAt
-  jump-op o h =
-      let p = and-both (leb 7 o) (leb o 13) h in
-      let a : 7 ≤ o = leb-true 7 o (p .0) in
-      let b : o ≤ 13 = leb-true o 13 (p .1) in
+  jump-op o a b =
       let e : o ≡ 7 + (o - 7) = omega arith in
       rw e (go (o - 7) (omega arith))
     where
-      and-both : (b d : Bool) → b && d ≡ true → (b ≡ true) × (d ≡ true)
-      and-both true d h = (refl, h)
-      and-both false d h = absurd (true≢false (sym h))
-
       go : (k : ℕ) → k ≤ 6 → quiet (λ c. branch (testAt (7 + k) (bit ZERO (s .sr)) (bit NEGATIVE (s .sr))) (jump x) (return tt) c) (core l s) ≡ execute (opAt (7 + k)) x y r t (core l s)
       go zero h = refl
       go (suc zero) h = refl
@@ -113,32 +109,34 @@ test-else o z n h₁ h₂ h₃ h₄ h₅ h₆ = go (o - 7) refl
     go (suc (suc (suc (suc (suc (suc zero)))))) e = absurd (h₆ (from-8 o 5 e))
     go (suc (suc (suc (suc (suc (suc (suc k))))))) e = unfold testAt in rw e
 
--- one number after the other, none of which n is
-pub past : (n k : ℕ) → k ≤ n → (n ≡ k → ⊥) → suc k ≤ n
-past n k h e = omega arith
-
-pub below-33 : (n : ℕ) → 31 ≤ n → n < 33 → (n ≡ 32 → ⊥) → n ≡ 31
-below-33 n h k e = omega arith
-
 -- a number that a test refuses is none that it takes
-pub not-in : (f : ℕ → Bool) (n k : ℕ) → f n ≡ false → f k ≡ true → n ≡ k → ⊥
+not-in : (f : ℕ → Bool) (n k : ℕ) → f n ≡ false → f k ≡ true → n ≡ k → ⊥
 not-in f n k h e x = true≢false (sym e ∙ ap f (sym x) ∙ h)
 
--- the fifth of the operations that write
-pub writer-st : (n : ℕ) → writer n ≡ true → (n ≡ 2 → ⊥) → (n ≡ 5 → ⊥) → (n ≡ 22 → ⊥) → (n ≡ 30 → ⊥) → n ≡ 28
-writer-st n h h₂ h₅ h₂₂ h₃₀ = go (eqb n 28) refl (rw (ne-eqb n 2 h₂, ne-eqb n 5 h₅, ne-eqb n 22 h₂₂, ne-eqb n 30 h₃₀) at h)
-  where
-    go : (b : Bool) → eqb n 28 ≡ b → eqb n 28 || false ≡ true → n ≡ 28
-    go true e k = eqb-true n 28 e
-    go false e k = absurd (true≢false (sym (rw e at k)))
+-- beside P: o is none of the k numbers from n on. So the last arm of a match has the numbers of the others
+abbrev Skips : Type 0 → ℕ → ℕ → ℕ → Type 0
+Skips P zero n o = P
+Skips P (suc k) n o = Skips P k n o × (o ≡ n + k → ⊥)
+
+module _ (P : Type 0) (n o : ℕ) where
+  past : (k : ℕ) → n ≤ o → Skips P k n o → n + k ≤ o
+  past zero h s = omega arith
+  past (suc k) h s = let p = past k h (s .0) in let e = s .1 in omega arith
+
+  under : (k : ℕ) → o < n + k → Skips P k n o → (o < n) × P
+  under zero h s = (omega arith, s)
+  under (suc k) h s = let e = s .1 in under k (omega arith) (s .0)
+
+-- what is left beside 0 to 5, 14 to 19, 21 to 32 and the two that ask
+pub jumps-left : (o : ℕ) → o < 33 → asker o ≡ false → Skips (Skips (Skips (Unit {0}) 6 0 o) 6 14 o) 12 21 o → (7 ≤ o) × (o < 14)
+jumps-left o h a n =
+    let from-21 = under (Skips (Skips (Unit {0}) 6 0 o) 6 14 o) 21 o 12 h n in
+    let from-14 = under (Skips (Unit {0}) 6 0 o) 14 o 6 (under (Unit {0}) 20 o 1 (from-21 .0) (tt, not-in asker o 20 a refl) .0) (from-21 .1) in
+    (past (Unit {0}) 6 o 1 (past (Unit {0}) 0 o 6 (omega arith) (from-14 .1)) (tt, not-in asker o 6 a refl), from-14 .0)
 
 -- sp after a read there is still a u32
 pub sp-fits : (l : List ℤ) (n : ℕ) (v : Cell) → cellCount l ≤ CELLS-MOST → get l n ≡ Here v → n < 10000
 sp-fits l n v h e = omega (arith, ltb-true n (cellCount l) (get-here l n v e))
-
--- nothing to be written
-pub none-written : (l : List ℤ) → cellCount l ≤ CELLS-MOST → (q : Put) → madeRes l (unwritten q) ≡ putRes l q
-none-written l h q = ap (λ (m : List ℤ). putRes m q) (over-none l 4294967295 empty (omega arith))
 
 module _ (l : List ℤ) (s : Registers) where
   -- jumps

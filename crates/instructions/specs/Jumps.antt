@@ -3,10 +3,6 @@ use mathlib.Core.Bool.{Bool, true, not, _&&_, _||_}
 use mathlib.Core.List.{[], _∷_}
 use Prim.Native.Nat.{ℕ, _-_}
 use lib.ListN.{getD}
-use lib.Dec.{leb}
-
-abbrev pub jumper : ℕ → Bool
-jumper o = leb 7 o && leb o 13
 
 -- The test of Z and N.
 unfoldable pub testAt : ℕ → Bool → Bool → Bool

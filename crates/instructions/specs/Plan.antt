@@ -36,10 +36,7 @@ written n v q = record { ok = q .ok; error = q .error; p = record { s = q .s; at
 abbrev pub unwritten : Put → Made
 unwritten q = written 4294967295 empty q
 
--- The operations that write a cell (call, fas, push, st, swap), and those that ask the console (in, out).
-abbrev pub writer : ℕ → Bool
-writer n = (((eqb n 2 || eqb n 5) || eqb n 22) || eqb n 28) || eqb n 30
-
+-- The operations that ask the console: in and out.
 abbrev pub asker : ℕ → Bool
 asker n = eqb n 6 || eqb n 20
 

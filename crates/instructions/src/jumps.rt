@@ -14,7 +14,7 @@ ghost use Rattle.definition.specs.Computer.{core, branch, return};
 ghost use Rattle.definition.specs.Instructions.{jump, reset};
 ghost use Rattle.registers.specs.Answer.{putRes};
 ghost use Rattle.arguments.specs.By.{argOf};
-ghost use Rattle.instructions.specs.Jumps.{jumper, testAt};
+ghost use Rattle.instructions.specs.Jumps.{testAt};
 
 pub fn zero(s: Registers) -> bool
     ensures { λ r. ⌜ r ≡ bit ZERO (s .sr) ⌝ }
@@ -26,13 +26,6 @@ pub fn negative(s: Registers) -> bool
     ensures { λ r. ⌜ r ≡ bit NEGATIVE (s .sr) ⌝ }
 {
     word::test_bit(s.sr, 2)
-}
-
-// Is it a jump: jmp, jeq, jne, jle, jlt, jge or jgt?
-pub fn is_jump(op: u32) -> bool
-    ensures { λ r. ⌜ r ≡ jumper op ⌝ }
-{
-    (7 <= op) & (op <= 13)
 }
 
 // The test of each jump.

@@ -1,15 +1,14 @@
-// instructions.rs: Instruction::execute, in two halves by whether a cell is written, and the two requests to the console.
+// instructions.rs: Instruction::execute, and the two requests to the console.
 use arguments::Arg;
 use definition::Address;
 use definition::Cell;
 use definition::Error;
 use definition::Registers;
 use definition::Word;
-use registers::Put;
 ghost use mathlib.Core.Path.{_≡_};
-ghost use mathlib.Core.Bool.{true, false};
+ghost use mathlib.Core.Bool.{false};
 ghost use mathlib.Core.List.{List};
-ghost use Prim.Native.Nat.{_≤_};
+ghost use Prim.Native.Nat.{_≤_, _<_};
 ghost use lib.IntN.{ℤ};
 ghost use Rattle.definition.specs.Constants.{CELLS-MOST};
 ghost use Rattle.definition.specs.Memory.{cellCount};
@@ -17,9 +16,9 @@ ghost use Rattle.definition.specs.Registers.{regAt};
 ghost use Rattle.definition.specs.Computer.{core};
 ghost use Rattle.definition.specs.Encoding.{opAt};
 ghost use Rattle.definition.specs.Instructions.{execute, nothing, reads, writes, inOp, outOp};
-ghost use Rattle.registers.specs.Answer.{result, answer};
+ghost use Rattle.registers.specs.Answer.{result};
 ghost use Rattle.arguments.specs.By.{argOf};
-ghost use Rattle.instructions.specs.Plan.{made, writer, asker};
+ghost use Rattle.instructions.specs.Plan.{made, asker};
 
 pub mod jumps;
 pub mod moves;
@@ -32,7 +31,7 @@ pub struct Plan {
     pub v: Cell,
 }
 
-// The answer of an instruction that may write a cell. Where ok, `error` is a filler.
+// The answer of an instruction. Where ok, `error` is a filler.
 pub struct Made {
     pub ok: bool,
     pub error: Error,
@@ -47,67 +46,50 @@ pub struct Asked {
     pub w: i64,
 }
 
-// Does the operation write a cell: call, fas, push, st and swap?
-pub fn is_writer(op: u32) -> bool
-    ensures { λ r. ⌜ r ≡ writer op ⌝ }
-{
-    (op == 2) | (op == 5) | (op == 22) | (op == 28) | (op == 30)
-}
-
-// Does it ask the console: in and out?
+// Does the operation ask the console: in and out?
 pub fn is_asker(op: u32) -> bool
     ensures { λ r. ⌜ r ≡ asker op ⌝ }
 {
     (op == 6) | (op == 20)
 }
 
-// Instruction::execute for an operation that writes no cell and asks nothing. A number past the last is trap.
-pub fn execute(cells: &[i64], s: Registers, op: u32, x: Arg, y: Arg) -> Put
-    requires { do ⌜ (cellCount (now cells) ≤ CELLS-MOST) × ((writer op ≡ false) × (asker op ≡ false)) ⌝ }
-    ensures { λ q. ⌜ answer nothing (now (cells .entry)) q ≡ execute (opAt op) (argOf x) (argOf y) (regAt (x .reg)) (regAt (y .reg)) (core (now (cells .entry)) s) ⌝ }
+// Instruction::execute for every operation but in and out. One flat match, so that it compiles to one jump table; what it leaves
+// to its last arm are the seven jumps.
+pub fn execute(cells: &[i64], s: Registers, op: u32, x: Arg, y: Arg) -> Made
+    requires { do ⌜ (cellCount (now cells) ≤ CELLS-MOST) × ((asker op ≡ false) × (op < 33)) ⌝ }
+    ensures { λ d. ⌜ made nothing (now (cells .entry)) d ≡ execute (opAt op) (argOf x) (argOf y) (regAt (x .reg)) (regAt (y .reg)) (core (now (cells .entry)) s) ⌝ }
 {
-    if jumps::is_jump(op) {
-        return jumps::jump_if(
+    match op {
+        0 => stores::with_none(operations::words::add(cells, s, x, y.reg)),
+        1 => stores::with_none(operations::words::and(cells, s, x, y.reg)),
+        2 => stores::call(cells, s, x),
+        3 => stores::with_none(operations::words::cmp(cells, s, x, y.reg)),
+        4 => stores::with_none(operations::words::div(cells, s, x, y.reg)),
+        5 => stores::fas(cells, s, x, y.reg),
+        14 => stores::with_none(moves::ld(cells, s, x, y.reg)),
+        15 => stores::with_none(operations::words::mul(cells, s, x, y.reg)),
+        16 => stores::with_none(operations::words::neg(s, x.reg)),
+        17 => stores::with_none(registers::accept(s)),
+        18 => stores::with_none(operations::words::not(s, x.reg)),
+        19 => stores::with_none(operations::words::or(cells, s, x, y.reg)),
+        21 => stores::with_none(moves::pop(cells, s, x.reg)),
+        22 => stores::push(cells, s, x),
+        23 => stores::with_none(jumps::reset(s)),
+        24 => stores::with_none(moves::rti(cells, s)),
+        25 => stores::with_none(moves::rtn(cells, s)),
+        26 => stores::with_none(operations::words::shl(cells, s, x, y.reg)),
+        27 => stores::with_none(operations::words::shr(cells, s, x, y.reg)),
+        28 => stores::st(cells, s, x.reg, y),
+        29 => stores::with_none(operations::words::sub(cells, s, x, y.reg)),
+        30 => stores::swap(cells, s, x, y.reg),
+        31 => stores::with_none(registers::refuse(s, Error::Trap)),
+        32 => stores::with_none(operations::words::xor(cells, s, x, y.reg)),
+        _ => stores::with_none(jumps::jump_if(
             cells,
             s,
             jumps::is_taken(op, jumps::zero(s), jumps::negative(s)),
             x,
-        );
-    }
-    match op {
-        0 => operations::words::add(cells, s, x, y.reg),
-        1 => operations::words::and(cells, s, x, y.reg),
-        3 => operations::words::cmp(cells, s, x, y.reg),
-        4 => operations::words::div(cells, s, x, y.reg),
-        14 => moves::ld(cells, s, x, y.reg),
-        15 => operations::words::mul(cells, s, x, y.reg),
-        16 => operations::words::neg(s, x.reg),
-        17 => registers::accept(s),
-        18 => operations::words::not(s, x.reg),
-        19 => operations::words::or(cells, s, x, y.reg),
-        21 => moves::pop(cells, s, x.reg),
-        23 => jumps::reset(s),
-        24 => moves::rti(cells, s),
-        25 => moves::rtn(cells, s),
-        26 => operations::words::shl(cells, s, x, y.reg),
-        27 => operations::words::shr(cells, s, x, y.reg),
-        29 => operations::words::sub(cells, s, x, y.reg),
-        32 => operations::words::xor(cells, s, x, y.reg),
-        _ => registers::refuse(s, Error::Trap),
-    }
-}
-
-// Instruction::execute for an operation that writes a cell.
-pub fn execute_write(cells: &[i64], s: Registers, op: u32, x: Arg, y: Arg) -> Made
-    requires { do ⌜ (cellCount (now cells) ≤ CELLS-MOST) × (writer op ≡ true) ⌝ }
-    ensures { λ d. ⌜ made nothing (now (cells .entry)) d ≡ execute (opAt op) (argOf x) (argOf y) (regAt (x .reg)) (regAt (y .reg)) (core (now (cells .entry)) s) ⌝ }
-{
-    match op {
-        2 => stores::call(cells, s, x),
-        5 => stores::fas(cells, s, x, y.reg),
-        22 => stores::push(cells, s, x),
-        30 => stores::swap(cells, s, x, y.reg),
-        _ => stores::st(cells, s, x.reg, y),
+        )),
     }
 }
 
