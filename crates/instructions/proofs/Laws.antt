@@ -45,7 +45,7 @@ foundWord x l s = wordBy (x .mode) (getReg (regAt (x .reg)) s) (x .number) l
 
 -- nothing to be written: the answer is the registers' alone
 module _ (l : List ℤ) (h : cellCount l ≤ CELLS-MOST) where
-  pub made-none : {X : Type 0} (v : X) (q : Put) → made v l (unwritten q) ≡ answer v l q
+  made-none : {X : Type 0} (v : X) (q : Put) → made v l (unwritten q) ≡ answer v l q
   made-none v q = ap (λ (m : List ℤ). answer v m q) (over-none l 4294967295 empty (omega arith))
 
   pub none-written : (q : Put) → madeRes l (unwritten q) ≡ putRes l q
@@ -71,7 +71,10 @@ module _ (l : List ℤ) (c : Core) (m : Exec (Unit {0})) where
 pub op-is : (x y : Operand) (r t : Reg) (c : Core) (n k : ℕ) → n ≡ k → execute (opAt k) x y r t c ≡ execute (opAt n) x y r t c
 op-is x y r t c n k h = ap (λ (m : ℕ). execute (opAt m) x y r t c) (sym h)
 
--- a jump by its number
+-- a jump by its test, and by its number
+pub branch-is : {a b : Bool} (m n : Exec (Unit {0})) (c : Core) → a ≡ b → branch b m n c ≡ branch a m n c
+branch-is m n c h = ap (λ (d : Bool). branch d m n c) (sym h)
+
 module _ (x y : Operand) (r t : Reg) (l : List ℤ) (s : Registers) where
   pub jump-op : (o : ℕ) → 7 ≤ o → o < 14 → quiet (λ c. branch (testAt o (bit ZERO (s .sr)) (bit NEGATIVE (s .sr))) (jump x) (return tt) c) (core l s) ≡ execute (opAt o) x y r t (core l s)
   unfolding execute opAt quiet andThen jumpIf branch testAt
@@ -113,7 +116,7 @@ test-else o z n h₁ h₂ h₃ h₄ h₅ h₆ = go (o - 7) refl
 not-in : (f : ℕ → Bool) (n k : ℕ) → f n ≡ false → f k ≡ true → n ≡ k → ⊥
 not-in f n k h e x = true≢false (sym e ∙ ap f (sym x) ∙ h)
 
--- beside P: o is none of the k numbers from n on. So the last arm of a match has the numbers of the others
+-- P, and o is none of the k numbers from n on: so the last arm of a match has the numbers of the arms before it
 abbrev Skips : Type 0 → ℕ → ℕ → ℕ → Type 0
 Skips P zero n o = P
 Skips P (suc k) n o = Skips P k n o × (o ≡ n + k → ⊥)

@@ -1,8 +1,8 @@
 // The jumps, and reset, which leaves pc on itself.
 use arguments::Arg;
-use definition::Address;
 use definition::Error;
 use definition::Registers;
+use definition::Word;
 use registers::Put;
 ghost use mathlib.Core.Path.{_≡_};
 ghost use mathlib.Core.List.{List};
@@ -44,18 +44,20 @@ pub fn is_taken(op: u32, z: bool, n: bool) -> bool
 }
 
 // A jump, where its test holds: "A conditional jump not taken never reads its operand." One function for the seven, so that it is
-// called in one place and is inlined there.
+// called in one place and is inlined there. The word is tested here: an Address would be packed and unpacked at each jump.
 pub fn jump_if(cells: &[i64], s: Registers, test: bool, x: Arg) -> Put
     ensures { λ q. ⌜ putRes (now (cells .entry)) q ≡ branch test (jump (argOf x)) (return tt) (core (now (cells .entry)) s) ⌝ }
 {
     if test {
-        match arguments::target(cells, registers::get_reg(s, x.reg), x.mode, x.number) {
-            Address::At(n) => {
+        match arguments::operand_word(cells, registers::get_reg(s, x.reg), x.mode, x.number) {
+            Word::Is(w) => if (0 <= w) & (w <= 4294967295) {
                 let mut t = s;
-                t.pc = n;
+                t.pc = w as u32;
                 registers::accept(t)
-            }
-            Address::NotAddress => registers::refuse(s, Error::Extract),
+            } else {
+                registers::refuse(s, Error::Extract)
+            },
+            Word::NotWord => registers::refuse(s, Error::Extract),
         }
     } else {
         registers::accept(s)

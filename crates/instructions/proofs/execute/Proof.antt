@@ -1,13 +1,12 @@
-use mathlib.Core.Path.{_∙_, ap, ap₂}
-use mathlib.Core.Bool.{Bool}
+use mathlib.Core.Path.{sym, _∙_, ap, ap₂}
 use Rattle.definition.specs.Registers.{regAt}
-use Rattle.definition.specs.Computer.{core, branch, return}
+use Rattle.definition.specs.Computer.{core, return}
 use Rattle.definition.specs.Encoding.{opAt}
 use Rattle.definition.specs.Instructions.{execute, jump}
 use Rattle.arguments.specs.By.{argOf}
 use Rattle.registers.specs.Answer.{putRes}
 use Rattle.instructions.specs.Jumps.{testAt}
-use Rattle.instructions.proofs.Laws.{quiet-none, quiet-made, op-is, jump-op, jumps-left}
+use Rattle.instructions.proofs.Laws.{quiet-none, quiet-made, op-is, jump-op, jumps-left, branch-is}
 use borrow.Author.Needs.{needs}
 use Rattle.instructions.proofs.execute.Statement.{statement}
 use Rattle.instructions.proofs.execute.Tie as tie
@@ -360,7 +359,7 @@ returns-25 : tie.Need-returns-25
 returns-25 c = let k = c .before .before .before .before .before in let a = k .before .args in let l = a .cells .now in let m = core l (a .s) in let o = a .op in
     let j = jumps-left o (k .before .pre .1 .1) (k .before .pre .1 .0) (k .match .rest) in
     let e = c .before .before .is-taken .ensures ∙ ap₂ (testAt o) (c .before .before .before .before .zero .ensures) (c .before .before .before .negative .ensures) in
-    quiet-none l m _ (k .before .pre .0) (c .before .jump-if .result) (c .with-none20 .ensures) (c .before .jump-if .ensures ∙ ap (λ (b : Bool). branch b (jump (argOf (a .x))) (return tt) m) e) ∙ jump-op (argOf (a .x)) (argOf (a .y)) (regAt (a .x .reg)) (regAt (a .y .reg)) l (a .s) o (j .0) (j .1)
+    quiet-none l m _ (k .before .pre .0) (c .before .jump-if .result) (c .with-none20 .ensures) (c .before .jump-if .ensures ∙ branch-is (jump (argOf (a .x))) (return tt) m (sym e)) ∙ jump-op (argOf (a .x)) (argOf (a .y)) (regAt (a .x .reg)) (regAt (a .y .reg)) l (a .s) o (j .0) (j .1)
 
 pub execute-spec : {M : Type 1} → statement M
 execute-spec =
