@@ -554,11 +554,15 @@ taken {n} {s} {pc} {sp} {sr} {m} h i =
     (ap (λ (u : State). brokenLine (u .reader)) r, (ap (λ (u : State). u .reader .start) r, ap (λ (u : State). u .cells) r))
 
 -- So a text has one reading.
-pub one-reading : {n n′ : ℕ} {s : List ℕ} {pc sp sr pc′ sp′ sr′ : ℤ} {m m′ : List ℤ} → length s < 18446744073709551615 → Image n s pc sp sr m → Image n′ s pc′ sp′ sr′ m′ → (startOf pc sp sr ≡ startOf pc′ sp′ sr′) × (m ≡ m′)
+pub one-reading : {n n′ : ℕ} {s : List ℕ} {pc sp sr pc′ sp′ sr′ : ℤ} {m m′ : List ℤ} → length s < 18446744073709551615 → Image n s pc sp sr m → Image n′ s pc′ sp′ sr′ m′ → (n ≡ n′) × ((startOf pc sp sr ≡ startOf pc′ sp′ sr′) × (m ≡ m′))
 one-reading h a b =
+    let k = image-long a in
+    let l = image-long b in
+    let p = ap (λ (u : State). u .reader .line) (complete a (omega arith) .is) in
+    let q = ap (λ (u : State). u .reader .line) (complete b (omega arith) .is) in
     let x = taken h a in
     let y = taken h b in
-    (sym (x .1 .0) ∙ y .1 .0, sym (x .1 .1) ∙ y .1 .1)
+    (omega arith, (sym (x .1 .0) ∙ y .1 .0, sym (x .1 .1) ∙ y .1 .1))
 
 -- ---- only one line can be the lowest that breaks the form
 
@@ -566,17 +570,26 @@ fold-dead : (t : List ℕ) (u : State) → u .reader .broken ≡ true → foldl 
 fold-dead [] u h = refl
 fold-dead (b ∷ t) u h = ap (λ (w : State). foldl step w t) (dead-stays u b h) ∙ fold-dead t u h
 
+abbrev NoLine : ℕ → List ℕ → Type 0
+NoLine k q = (l v : List ℕ) → q ≡ l ++ v → Good k l → ⊥
+
 -- a line that does not end in order is still open at the end, or broken
-unended : (q d : List ℕ) {k : ℕ} {st : Start} {m : List ℤ} {u : State} → Outcome k st m d u → ((l v : List ℕ) → d ++ q ≡ l ++ v → Good k l → ⊥) → Part k st m (d ++ q) (foldl step u q)
-unended q d (breaks {u = u} h l) none =
+abbrev Unended : ℕ → Start → List ℤ → List ℕ → Type 0
+Unended k st m q = (d : List ℕ) (u : State) → Within k st m d u → NoLine k (d ++ q) → Part k st m (d ++ q) (foldl step u q)
+
+unended-by : (q d : List ℕ) {k : ℕ} {st : Start} {m : List ℤ} {u : State} → Outcome k st m d u → Unended k st m q → NoLine k (d ++ q) → Part k st m (d ++ q) (foldl step u q)
+unended-by q d {u = u} (stays w) go none = go d u w none
+unended-by q d {u = u} (breaks h l) go none =
     let e = fold-dead q u h in
     dead′ (ap (λ (w : State). w .reader .broken) e ∙ h) (ap (λ (w : State). w .reader .line) e ∙ l)
-unended q d (starts line) none = absurd (none d q refl (G.first line))
-unended q d (writes line) none = absurd (none d q refl (G.later line))
-unended [] d {k} {st} {m} {u} (stays w) none = alive (subst (λ (j : List ℕ). Within k st m j u) (sym (append-nil d)) w)
-unended (b ∷ q) d {k} {st} {m} {u} (stays w) none =
+unended-by q d (starts line) go none = absurd (none d q refl (G.first line))
+unended-by q d (writes line) go none = absurd (none d q refl (G.later line))
+
+unended : (k : ℕ) (st : Start) (m : List ℤ) (q : List ℕ) → Unended k st m q
+unended k st m [] d u w none = alive (subst (λ (j : List ℕ). Within k st m j u) (sym (append-nil d)) w)
+unended k st m (b ∷ q) d u w none =
     let e = append-assoc d (b ∷ []) q in
-    subst (λ (j : List ℕ). Part k st m j (foldl step (step u b) q)) e (unended q (d ++ (b ∷ [])) (within-step b w) (λ l v z. none l v (sym e ∙ z)))
+    subst (λ (j : List ℕ). Part k st m j (foldl step (step u b) q)) e (unended-by q (d ++ (b ∷ [])) (within-step b w) (unended k st m q) (λ l v z. none l v (sym e ∙ z)))
 
 -- where such a line has a byte, or is the first, its number is the answer
 open-line : {k : ℕ} {st : Start} {m : List ℤ} {q : List ℕ} {u : State} → Part k st m q u → (q ≡ [] → k ≡ 0) → brokenLine (u .reader) ≡ k + 1
@@ -619,7 +632,7 @@ broken-at {k} {s} h b =
     let n = ap length (b .cut) ∙ length-append (b .p) (b .q) in
     let a = begun (b .front) (omega arith) in
     let e : readText s ≡ foldl step (readText (b .p)) (b .q) = ap readText (b .cut) ∙ foldl-append step (state opened emptyCells) (b .p) (b .q) in
-    ap (λ (u : State). brokenLine (u .reader)) e ∙ open-line (unended (b .q) [] (stays (a .start)) (b .none)) (b .left)
+    ap (λ (u : State). brokenLine (u .reader)) e ∙ open-line (unended k (a .st) (a .m) (b .q) [] (readText (b .p)) (a .start) (b .none)) (b .left)
 
 -- So only one line can be the lowest that breaks the form.
 pub one-broken : {j k : ℕ} {s : List ℕ} → length s < 18446744073709551615 → Breaks j s → Breaks k s → j ≡ k
@@ -634,3 +647,15 @@ none-broken h i b =
     let x = taken h i .0 in
     let y = broken-at h b in
     omega arith
+
+-- Each text is an image or breaks at a line.
+pub data Judged (s : List ℕ) : Type 0 where
+  image : Accepted s (readText s) → Judged s
+  breaking : (k : ℕ) → Breaks k s → Judged s
+
+pub judged : (s : List ℕ) → length s < 18446744073709551614 → Judged s
+judged s h = go (brokenLine (readText s .reader)) refl
+  where
+    go : (n : ℕ) → brokenLine (readText s .reader) ≡ n → Judged s
+    go zero e = image (accepted s (omega arith) e)
+    go (suc k) e = breaking k (refused s k h (e ∙ omega arith))
