@@ -1,7 +1,7 @@
 -- What is printed, in the terms of the grammar. Assumes nothing.
 use mathlib.Core.Path.{_≡_, sym, ap, _∙_, subst}
 use mathlib.Core.List.{List, [], _∷_, _++_}
-use Prim.Native.Nat.{ℕ, zero, suc, _+_, _*_, _/_, _%_, _^_, _<_, _≤_}
+use Prim.Native.Nat.{ℕ, zero, suc, _+_, _*_, _/_, _%_, _^_, _<_}
 use native.Mathlib.Omega.{arith}
 use native.Mathlib.Nat.{pow-suc}
 use lib.IntN.{ℤ, pos, negsuc}
@@ -9,14 +9,13 @@ use lib.ListN.{length}
 use mir.Syntax.{w64}
 use mir.Val.{SFits}
 use Rattle.word.proofs.Laws.{ltb-elim}
-use Rattle.lines.specs.declared.Start.{Start}
-use Rattle.lines.specs.Reader.{State, readText}
+use Rattle.lines.specs.Reader.{readText}
 use Rattle.lines.specs.Grammar.{Digits, Numeral, Image, Breaks}
 use Rattle.lines.specs.Grammar as G
 use Rattle.lines.proofs.Complete.{startOf}
 use Rattle.lines.proofs.Exact.{taken, broken-at}
 use Rattle.report.specs.Text.{decimalIn, decimal, numeral, refusalText}
-use Rattle.marker.specs.Image.{imageText, markText, printed}
+use Rattle.marker.specs.Image.{imageText, printed}
 use Rattle.marker.proofs.Laws.{refused-mark, image-mark}
 
 -- An image gives the seven lines of its run.

@@ -1,5 +1,5 @@
 -- Document 01's own case of the runner, by computation. Assumes nothing.
-use mathlib.Core.Path.{_≡_, refl, sym, ap, _∙_}
+use mathlib.Core.Path.{_≡_, refl, ap, _∙_}
 use mathlib.Core.Bool.{false}
 use mathlib.Core.List.{List, [], _∷_}
 use Prim.Native.Nat.{ℕ}
@@ -16,7 +16,6 @@ use Rattle.definition.specs.Instructions.{andFlags, putResult, putWrapped, word
 use Rattle.definition.specs.Runtime.{orInstruction, fetch, attempt, ends, poll, conclude, serve, afterAttempt, turn, hasHandler, settle, reached, limit, step, later, goOn, run}
 use Rattle.definition.specs.Calls.{machineOf, rowOf, verdict, isBelow, isMark, lowestDamaged, cellsTest, queueTest, outputTest, lengthTest, rowTests, damageTest, runCheck, ran, runCall}
 use Rattle.definition.specs.Memory.{cell}
-use Rattle.lines.specs.declared.Start.{Start}
 use Rattle.lines.specs.Reader.{letter, openingByte, valueOf, digit, comma, minus, plain, within, following, next, startLine, cellLine, lineEnd, brokenLine, emptyCells, readText}
 use Rattle.lines.specs.Reader as R
 use Rattle.lines.proofs.Complete.{startOf}

@@ -1,69 +1,48 @@
-use mathlib.Core.Path.{_≡_, sym, _∙_}
-use Prim.Native.Nat.{_<_}
+use mathlib.Core.Path.{sym, _∙_}
 use native.Mathlib.Omega.{arith}
 use Rattle.lines.specs.Reader.{state}
 use Rattle.marker.proofs.Laws.{refused-mark, run-mark}
 use borrow.Author.Needs.{needs}
 use Rattle.marker.proofs.put_mark.Statement.{statement}
 use Rattle.marker.proofs.put_mark.Tie as tie
-use Rattle.marker.proofs.put_mark.Reads as reads
-use Rattle.marker.proofs.put_mark.Lts as lts
-use Rattle.lines.proofs.broken_line.Reads as broken-line-reads
-use Rattle.marker.proofs.put_start.Reads as put-start-reads
-use Rattle.marker.proofs.run_image.Reads as run-image-reads
-use Rattle.report.proofs.put_refusal.Reads as put-refusal-reads
-use Rattle.report.proofs.put_run.Reads as put-run-reads
 
--- src/lib.rt:40:9
 broken-line-requires : tie.Need-broken-line-requires
 broken-line-requires c κs = search needs
 
--- src/lib.rt:42:9
 put-refusal-requires : tie.Need-put-refusal-requires
 put-refusal-requires c κs = search needs
 
--- src/lib.rt:42:9
 same-length : tie.Need-same-length
 same-length c = search needs
 
--- src/lib.rt:42:9
 returns : tie.Need-returns
 returns c = let a = c .before .before .before .before .before .before .before .args in
     (c .before .before .put-refusal .ensures .0 ∙ sym (refused-mark (state (a .r) (a .cells .now)) (c .before .before .before .before .before .broken-line .result) (c .before .before .before .before .before .broken-line .ensures) (c .before .before .before .before .if1 .taken)), c .before .before .put-refusal .ensures .1)
 
--- src/lib.rt:46:15
 slice-aggregate-put-start : tie.Need-slice-aggregate-put-start
 slice-aggregate-put-start c = search needs
 
--- src/lib.rt:46:5
 put-start-requires : tie.Need-put-start-requires
 put-start-requires c κs = search needs
 
--- src/lib.rt:47:32
 slice-aggregate-run-image : tie.Need-slice-aggregate-run-image
 slice-aggregate-run-image c = search needs
 
--- src/lib.rt:47:9
 run-image-requires : tie.Need-run-image-requires
 run-image-requires c κs = search needs
 
--- src/lib.rt:48:31
 slice-aggregate-put-run : tie.Need-slice-aggregate-put-run
 slice-aggregate-put-run c = search needs
 
--- src/lib.rt:48:5
 put-run-requires : tie.Need-put-run-requires
 put-run-requires c κs = search needs
 
--- src/lib.rt:35:1
 same-length-2 : tie.Need-same-length-2
 same-length-2 c = search needs
 
--- src/lib.rt:35:1
 same-length-3 : tie.Need-same-length-3
 same-length-3 c = search needs
 
--- src/lib.rt:35:1
 returns-2 : tie.Need-returns-2
 returns-2 c = let a = c .before .before .before .before .before .before .before .before .before .before .before .before .before .before .before .before .before .args in let m = c .before .before .before .before .before .before .before .run-image .ensures in
     (c .before .before .put-run .ensures .0 ∙ run-mark (state (a .r) (a .cells .now)) (c .before .before .before .before .before .before .before .before .before .before .before .put-start .last .0) (c .before .before .before .before .before .before .before .run-image .last .1 .0) (c .before .before .before .before .before .before .before .run-image .result) (sym (c .before .before .before .before .before .before .before .before .before .before .before .before .before .before .before .broken-line .ensures) ∙ omega arith) (c .before .before .before .before .before .before .before .before .before .before .before .put-start .ensures) (m .0) (m .1), c .before .before .put-run .ensures .1)

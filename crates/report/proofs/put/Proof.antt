@@ -1,15 +1,12 @@
-use mathlib.Core.Path.{_≡_, refl, sym, ap, _∙_}
-use mathlib.Core.List.{List, [], _∷_, _++_}
-use Prim.Native.Nat.{ℕ, _+_, _≤_, _-_}
+use mathlib.Core.Path.{_≡_, refl, _∙_}
+use mathlib.Core.List.{[], _∷_, _++_}
+use Prim.Native.Nat.{_+_, _≤_, _-_}
 use native.Mathlib.Omega.{arith}
 use lib.ListN.{length, take, drop, getD}
 use borrow.Author.Needs.{needs}
 use Rattle.report.proofs.Laws.{put-next, put-last, byte-next, bytes-end}
 use Rattle.report.proofs.put.Statement.{statement}
 use Rattle.report.proofs.put.Tie as tie
-use Rattle.report.proofs.put.Reads as reads
-use Rattle.report.proofs.put.Lts as lts
-use Rattle.report.proofs.put_byte.Reads as put-byte-reads
 
 abbrev Inv-loop : tie.InvT-loop
 Inv-loop out₀ at s k₀ i₀ out k i =

@@ -1,4 +1,4 @@
-use mathlib.Core.Path.{_≡_, sym, ap, _∙_}
+use mathlib.Core.Path.{sym, ap, _∙_}
 use mathlib.Core.List.{[], _∷_, _++_}
 use native.Mathlib.Omega.{arith}
 use lib.IntN.{pos}
@@ -8,60 +8,44 @@ use Rattle.report.proofs.Laws.{put-then, answer-pieces}
 use borrow.Author.Needs.{needs}
 use Rattle.report.proofs.put_answer.Statement.{statement}
 use Rattle.report.proofs.put_answer.Tie as tie
-use Rattle.report.proofs.put_answer.Reads as reads
-use Rattle.report.proofs.put_answer.Lts as lts
-use Rattle.report.proofs.put.Reads as put-reads
-use Rattle.report.proofs.put_byte.Reads as put-byte-reads
-use Rattle.report.proofs.put_count.Reads as put-count-reads
 
--- src/lib.rt:93:25
 slice-aggregate-put : tie.Need-slice-aggregate-put
 slice-aggregate-put c = search needs
 
--- src/lib.rt:93:9
 put-requires : tie.Need-put-requires
 unfolding answerText line fields
 put-requires c κs = omega (arith, simp length-append at (c .before .before .before .pre))
 
--- src/lib.rt:94:9
 put-count-requires : tie.Need-put-count-requires
 unfolding answerText line fields
 put-count-requires c κs = omega (arith, simp length-append at (c .before .before .before .before .before .before .before .pre))
 
--- src/lib.rt:95:9
 put-count-requires-2 : tie.Need-put-count-requires-2
 unfolding answerText line fields
 put-count-requires-2 c κs = omega (arith, simp length-append at (c .before .before .before .before .before .before .before .before .before .before .before .pre))
 
--- src/lib.rt:96:9
 put-byte-requires : tie.Need-put-byte-requires
 unfolding answerText line fields
 put-byte-requires c κs = omega (arith, simp length-append at (c .before .before .before .before .before .before .before .before .before .before .before .before .before .before .before .pre))
 
--- src/lib.rt:97:25
 slice-aggregate-put-2 : tie.Need-slice-aggregate-put-2
 slice-aggregate-put-2 c = search needs
 
--- src/lib.rt:97:9
 put-requires-2 : tie.Need-put-requires-2
 unfolding answerText line fields
 put-requires-2 c κs = omega (arith, simp length-append at (c .before .before .before .before .before .before .before .before .before .before .before .before .before .before .before .before .before .before .before .before .pre))
 
--- src/lib.rt:98:9
 put-count-requires-3 : tie.Need-put-count-requires-3
 unfolding answerText line fields
 put-count-requires-3 c κs = omega (arith, simp length-append at (c .before .before .before .before .before .before .before .before .before .before .before .before .before .before .before .before .before .before .before .before .before .before .before .before .pre))
 
--- src/lib.rt:99:5
 put-byte-requires-2 : tie.Need-put-byte-requires-2
 unfolding answerText line fields
 put-byte-requires-2 c κs = omega (arith, simp length-append at (c .before .before .before .before .before .before .before .before .before .before .before .before .before .before .before .before .before .before .before .before .before .before .before .before .before .before .before .before .pre))
 
--- src/lib.rt:88:1
 same-length : tie.Need-same-length
 same-length c = search needs
 
--- src/lib.rt:88:1
 returns : tie.Need-returns
 returns c = let r = c .before .before .before .before .before .before .before .before .before .before .before .before .before .before .before .before .before .before .before .before .before .before .before .before .before .before .before .before .before .before .before .args .ran in
     let u = field (pos (r .steps)) ++ (10 ∷ []) in

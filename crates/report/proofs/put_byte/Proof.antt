@@ -5,8 +5,6 @@ use borrow.Author.Needs.{needs}
 use native.Mathlib.Omega.{arith}
 use Rattle.report.proofs.put_byte.Statement.{statement}
 use Rattle.report.proofs.put_byte.Tie as tie
-use Rattle.report.proofs.put_byte.Reads as reads
-use Rattle.report.proofs.put_byte.Lts as lts
 
 slice-write-out : tie.Need-slice-write-out
 slice-write-out c = search needs

@@ -9,13 +9,6 @@ use Rattle.report.proofs.Laws.{put-then, minus-text, plus-text}
 use borrow.Author.Needs.{needs}
 use Rattle.report.proofs.put_field.Statement.{statement}
 use Rattle.report.proofs.put_field.Tie as tie
-use Rattle.report.proofs.put_field.Reads as reads
-use Rattle.report.proofs.put_field.Lts as lts
-use Rattle.report.proofs.put_byte.Reads as put-byte-reads
-use Rattle.report.proofs.put_count.Reads as put-count-reads
-use Rattle.report.proofs.put_decimal.Reads as put-decimal-reads
-use Rattle.word.proofs.lt.Reads as lt-reads
-use Rattle.word.proofs.magnitude.Reads as magnitude-reads
 
 minus : (c : tie.Then1) → numeral (c .before .before .before .before .args .v) ≡ 45 ∷ decimal (c .before .before .magnitude .result)
 minus c =
@@ -29,31 +22,24 @@ plus c =
     let f = toZ-ofZ (s .fits .v) in
     plus-text (s .args .v) (c .before .before .magnitude .result) (rw f at (sym (c .before .lt .ensures) ∙ c .if1 .left)) (rw f at (c .before .before .magnitude .ensures))
 
--- src/lib.rt:62:9
 magnitude-requires : tie.Need-magnitude-requires
 magnitude-requires c κs = search needs
 
--- src/lib.rt:63:8
 lt-requires : tie.Need-lt-requires
 lt-requires c κs = search needs
 
--- src/lib.rt:64:13
 put-byte-requires : tie.Need-put-byte-requires
 put-byte-requires c κs = search needs
 
--- src/lib.rt:65:13
 put-byte-requires-2 : tie.Need-put-byte-requires-2
 put-byte-requires-2 c κs = omega (arith, ap length (minus (c .before .before .before .before .before)))
 
--- src/lib.rt:66:9
 put-decimal-requires : tie.Need-put-decimal-requires
 put-decimal-requires c κs = omega (arith, ap length (minus (c .before .before .before .before .before .before .before .before .before)))
 
--- src/lib.rt:66:9
 same-length : tie.Need-same-length
 same-length c = search needs
 
--- src/lib.rt:66:9
 returns : tie.Need-returns
 returns c = let t = c .before .before .before .before .before .before .before .before .before .before .before .before in
     let a = t .before .before .before .before .args in
@@ -61,15 +47,12 @@ returns c = let t = c .before .before .before .before .before .before .before .b
     let x = take (a .at) (a .out .now) in
     rw (minus t) (put-then x (44 ∷ 45 ∷ []) (decimal n) (put-then x (44 ∷ []) (45 ∷ []) (c .before .before .before .before .before .before .before .before .before .before .put-byte .ensures .0) (c .before .before .before .before .before .before .put-byte2 .ensures .0)) (c .before .before .put-decimal .ensures .0), omega arith)
 
--- src/lib.rt:68:5
 put-count-requires : tie.Need-put-count-requires
 put-count-requires c κs = rw (plus (c .before)) at (c .before .before .before .before .before .pre)
 
--- src/lib.rt:57:1
 same-length-2 : tie.Need-same-length-2
 same-length-2 c = search needs
 
--- src/lib.rt:57:1
 returns-2 : tie.Need-returns-2
 returns-2 c = rw (plus (c .before .before .before .before)) (c .before .before .put-count .ensures)
 

@@ -1,43 +1,30 @@
-use mathlib.Core.Path.{_≡_, sym, _∙_}
 use mathlib.Core.List.{[], _∷_, _++_}
 use native.Mathlib.Omega.{arith}
-use lib.IntN.{pos}
-use lib.ListN.{length, take, length-append}
+use lib.ListN.{take, length-append}
 use Rattle.io.proofs.Counting.{counts}
 use Rattle.report.specs.Text.{decimal, refusalText, refusedName}
 use Rattle.report.proofs.Laws.{put-then, refusal-fits}
 use borrow.Author.Needs.{needs}
 use Rattle.report.proofs.put_refusal.Statement.{statement}
 use Rattle.report.proofs.put_refusal.Tie as tie
-use Rattle.report.proofs.put_refusal.Reads as reads
-use Rattle.report.proofs.put_refusal.Lts as lts
-use Rattle.report.proofs.put.Reads as put-reads
-use Rattle.report.proofs.put_byte.Reads as put-byte-reads
-use Rattle.report.proofs.put_decimal.Reads as put-decimal-reads
 
--- src/lib.rt:142:25
 slice-aggregate-put : tie.Need-slice-aggregate-put
 slice-aggregate-put c = search needs
 
--- src/lib.rt:142:9
 put-requires : tie.Need-put-requires
 put-requires c κs = search needs
 
--- src/lib.rt:143:9
 put-decimal-requires : tie.Need-put-decimal-requires
 unfolding refusalText
 put-decimal-requires c κs = omega (arith, simp length-append at (refusal-fits (c .before .before .before .before .before .before .before .args .line)))
 
--- src/lib.rt:144:5
 put-byte-requires : tie.Need-put-byte-requires
 unfolding refusalText
 put-byte-requires c κs = omega (arith, simp length-append at (refusal-fits (c .before .before .before .before .before .before .before .before .before .before .before .args .line)))
 
--- src/lib.rt:137:1
 same-length : tie.Need-same-length
 same-length c = search needs
 
--- src/lib.rt:137:1
 returns : tie.Need-returns
 unfolding refusalText
 returns c = let n = c .before .before .before .before .before .before .before .before .before .before .before .before .before .before .args .line in

@@ -1,68 +1,50 @@
-use mathlib.Core.Path.{_≡_, sym, _∙_}
-use mathlib.Core.List.{[], _∷_, _++_}
-use Prim.Native.Nat.{_<_}
+use mathlib.Core.List.{[], _∷_}
 use native.Mathlib.Omega.{arith}
-use lib.IntN.{pos}
-use lib.ListN.{length, take, length-append}
+use lib.ListN.{take, length-append}
 use Rattle.definition.specs.Calls.{at}
 use Rattle.report.specs.Text.{line, registersText, cyclesName, regsName}
 use Rattle.report.proofs.Laws.{put-then, one-of, three-of}
 use borrow.Author.Needs.{needs}
 use Rattle.report.proofs.put_registers.Statement.{statement}
 use Rattle.report.proofs.put_registers.Tie as tie
-use Rattle.report.proofs.put_registers.Reads as reads
-use Rattle.report.proofs.put_registers.Lts as lts
-use Rattle.report.proofs.put_line.Reads as put-line-reads
 
--- src/lib.rt:109:31
 slice-aggregate-put-line : tie.Need-slice-aggregate-put-line
 slice-aggregate-put-line c = search needs
 
--- src/lib.rt:109:42
 sub-put-line : tie.Need-sub-put-line
 sub-put-line c = search needs
 
--- src/lib.rt:109:42
 part-put-line-start : tie.Need-part-put-line-start
 part-put-line-start c = search needs
 
--- src/lib.rt:109:42
 part-put-line-end : tie.Need-part-put-line-end
 part-put-line-end c = search needs
 
--- src/lib.rt:109:9
 put-line-requires : tie.Need-put-line-requires
 unfolding registersText
 put-line-requires c κs = let w = c .before .before .before .before .args .row .now in
     rw (one-of w 9 (omega arith)) (omega (arith, simp length-append at (c .before .before .before .before .pre .1)))
 
--- src/lib.rt:110:22
 slice-aggregate-put-line-2 : tie.Need-slice-aggregate-put-line-2
 slice-aggregate-put-line-2 c = search needs
 
--- src/lib.rt:110:31
 sub-put-line-2 : tie.Need-sub-put-line-2
 sub-put-line-2 c = search needs
 
--- src/lib.rt:110:31
 part-put-line-start-2 : tie.Need-part-put-line-start-2
 part-put-line-start-2 c = search needs
 
--- src/lib.rt:110:31
 part-put-line-end-2 : tie.Need-part-put-line-end-2
 part-put-line-end-2 c = search needs
 
--- src/lib.rt:110:5
 put-line-requires-2 : tie.Need-put-line-requires-2
 unfolding registersText
 put-line-requires-2 c κs = let w = c .before .before .before .before .before .before .before .before .before .before .args .row .now in
     rw (three-of w 6 (omega arith)) (omega (arith, rw (one-of w 9 (omega arith)) at (c .before .before .before .before .before .put-line .ensures .1), simp length-append at (c .before .before .before .before .before .before .before .before .before .before .pre .1)))
 
--- src/lib.rt:103:1
 same-length : tie.Need-same-length
 same-length c = search needs
 
--- src/lib.rt:103:1
 returns : tie.Need-returns
 unfolding registersText
 returns c = let a = c .before .before .before .before .before .before .before .before .before .before .before .before .before .args in let w = a .row .now in

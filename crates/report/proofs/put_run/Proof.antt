@@ -1,42 +1,31 @@
-use mathlib.Core.Path.{_≡_, sym, _∙_}
 use mathlib.Core.List.{[], _++_}
 use native.Mathlib.Omega.{arith}
-use lib.ListN.{length, take, length-append}
+use lib.ListN.{take, length-append}
 use Rattle.io.proofs.Counting.{counts}
 use Rattle.report.specs.Text.{answerText, registersText, cellsText, runText}
 use Rattle.report.proofs.Laws.{put-then, run-fits}
 use borrow.Author.Needs.{needs}
 use Rattle.report.proofs.put_run.Statement.{statement}
 use Rattle.report.proofs.put_run.Tie as tie
-use Rattle.report.proofs.put_run.Reads as reads
-use Rattle.report.proofs.put_run.Lts as lts
-use Rattle.report.proofs.put_answer.Reads as put-answer-reads
-use Rattle.report.proofs.put_cells.Reads as put-cells-reads
-use Rattle.report.proofs.put_registers.Reads as put-registers-reads
 
--- src/lib.rt:131:9
 put-answer-requires : tie.Need-put-answer-requires
 unfolding runText
 put-answer-requires c κs = let a = c .before .before .args in
     omega (arith, simp length-append at (run-fits (a .ran) (a .row .now)))
 
--- src/lib.rt:132:9
 put-registers-requires : tie.Need-put-registers-requires
 unfolding runText
 put-registers-requires c κs = let a = c .before .before .before .before .before .before .args in
     (c .before .before .before .before .before .before .pre .0, omega (arith, simp length-append at (run-fits (a .ran) (a .row .now))))
 
--- src/lib.rt:133:5
 put-cells-requires : tie.Need-put-cells-requires
 unfolding runText
 put-cells-requires c κs = let a = c .before .before .before .before .before .before .before .before .before .before .args in
     (c .before .before .before .before .before .before .before .before .before .before .pre .0, omega (arith, simp length-append at (run-fits (a .ran) (a .row .now))))
 
--- src/lib.rt:126:1
 same-length : tie.Need-same-length
 same-length c = search needs
 
--- src/lib.rt:126:1
 returns : tie.Need-returns
 unfolding runText
 returns c = let a = c .before .before .before .before .before .before .before .before .before .before .before .before .before .args in let w = a .row .now in
