@@ -35,8 +35,8 @@ put-last x e w = sym (append-nil x) ∙ ap (λ (t : List ℕ). x ++ t) (sym e) �
 pub byte-next : (s : List ℕ) (i : ℕ) → i < length s → drop i s ≡ (getD s i 0 ∷ []) ++ drop (i + 1) s
 byte-next s i h = rw (add-one, drop-cons s i 0 h)
 
-pub bytes-end : (s : List ℕ) (i : ℕ) → i ≡ length s → drop i s ≡ []
-bytes-end s i e = rw (e, drop-length)
+pub drop-end {ℓ} : {A : Type ℓ} (l : List A) (i : ℕ) → i ≡ length l → drop i l ≡ []
+drop-end l i e = rw (e, drop-length)
 
 -- the next field
 pub fields-next : (vs : List ℤ) (i : ℕ) → i < length vs → fields (drop i vs) ≡ field (getD vs i (pos 0)) ++ fields (drop (i + 1) vs)
@@ -48,7 +48,7 @@ fields-length vs i h = ap length (fields-next vs i h) ∙ length-append (field (
 
 pub fields-end : (vs : List ℤ) (i : ℕ) → i ≡ length vs → fields (drop i vs) ≡ []
 unfolding fields
-fields-end vs i e = rw (e, drop-length)
+fields-end vs i e = ap fields (drop-end vs i e)
 
 -- one number of the row, and three
 pub one-of : (row : List ℤ) (i : ℕ) → i < length row → take 1 (drop i row) ≡ getD row i (pos 0) ∷ []

@@ -16,7 +16,7 @@ decimalIn (suc k) n = cond (ltb n 10) ((48 + n) ∷ []) (decimalIn k (n / 10) ++
 abbrev pub decimal : ℕ → List ℕ
 decimal n = decimalIn 20 n
 
--- "decimal digits after an optional minus"
+-- As in the input, "decimal digits after an optional minus".
 unfoldable pub numeral : ℤ → List ℕ
 numeral (pos n) = decimal n
 numeral (negsuc n) = 45 ∷ decimal (suc n)
@@ -29,7 +29,7 @@ unfoldable pub fields : List ℤ → List ℕ
 fields [] = []
 fields (v ∷ vs) = field v ++ fields vs
 
--- A name, its fields, "each with a line end".
+-- A name, its fields and a line end.
 unfoldable pub line : List ℕ → List ℤ → List ℕ
 line name vs = name ++ (fields vs ++ (10 ∷ []))
 

@@ -4,7 +4,7 @@ use Prim.Native.Nat.{_+_, _≤_, _-_}
 use native.Mathlib.Omega.{arith}
 use lib.ListN.{length, take, drop, getD}
 use borrow.Author.Needs.{needs}
-use Rattle.report.proofs.Laws.{put-next, put-last, byte-next, bytes-end}
+use Rattle.report.proofs.Laws.{put-next, put-last, byte-next, drop-end}
 use Rattle.report.proofs.put.Statement.{statement}
 use Rattle.report.proofs.put.Tie as tie
 
@@ -39,7 +39,7 @@ same-length c = c .before .loop .inv .2
 
 returns : tie.Need-returns Inv-loop μ-loop
 returns c = let l = c .before .loop in
-    (put-last (take (l .k) (l .out)) (bytes-end (c .before .before .before .before .args .s .now) (l .i) (omega arith)) (l .inv .3), omega arith)
+    (put-last (take (l .k) (l .out)) (drop-end (c .before .before .before .before .args .s .now) (l .i) (omega arith)) (l .inv .3), omega arith)
 
 pub put-spec : {M : Type 1} → statement M
 put-spec =
