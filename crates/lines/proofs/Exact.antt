@@ -425,9 +425,10 @@ none-yet first e = absurd (omega arith)
 none-yet later e = refl
 none-yet (field cs r) e = absurd (omega arith)
 
-first-has : {c : ℕ} {x y z : ℤ} {s : List ℕ} → Commas 0 c x y z s → 1 ≤ c
-first-has first = omega arith
-first-has (field cs r) = omega arith
+first-has : {k c : ℕ} {x y z : ℤ} {s : List ℕ} → Commas k c x y z s → k ≡ 0 → 1 ≤ c
+first-has first e = omega arith
+first-has later e = absurd (omega arith)
+first-has (field cs r) e = omega arith
 
 -- The image that a reader holds.
 pub record Accepted (s : List ℕ) (u : State) : Type 0 where
@@ -445,7 +446,7 @@ read-whole s q c f (alive (opening i h)) e = absurd (omega arith)
 read-whole s q c nothing (alive (fields {c = n} {f = g} cs r)) e =
     by-bool ((g .minus || g .digits) || ltb 0 n)
     (λ t. absurd (let z : 1 ≡ 0 = rw t at e in omega arith))
-    (λ t. absurd (let o = first-has cs in let l = ltb-false 0 n (either-false (g .minus || g .digits) (ltb 0 n) t .1) in omega arith))
+    (λ t. absurd (let o = first-has cs refl in let l = ltb-false 0 n (either-false (g .minus || g .digits) (ltb 0 n) t .1) in omega arith))
 read-whole s q c (lines {k} {p} {pc} {sp} {sr} {m = m} i) (alive (fields {c = n} {s = w} {a} {f = g} cs r)) e =
     by-bool ((g .minus || g .digits) || ltb 0 n)
     (λ t. absurd (let z : k + 1 ≡ 0 = rw t at e in omega arith))
@@ -553,8 +554,108 @@ taken {n} {s} {pc} {sp} {sr} {m} h i =
     (ap (λ (u : State). brokenLine (u .reader)) r, (ap (λ (u : State). u .reader .start) r, ap (λ (u : State). u .cells) r))
 
 -- So a text has one reading.
-pub one-reading : {n n′ : ℕ} {s : List ℕ} {pc sp sr pc′ sp′ sr′ : ℤ} {m m′ : List ℤ} → length s < 18446744073709551615 → Image n s pc sp sr m → Image n′ s pc′ sp′ sr′ m′ → (startOf pc sp sr ≡ startOf pc′ sp′ sr′) × (m ≡ m′)
+pub one-reading : {n n′ : ℕ} {s : List ℕ} {pc sp sr pc′ sp′ sr′ : ℤ} {m m′ : List ℤ} → length s < 18446744073709551615 → Image n s pc sp sr m → Image n′ s pc′ sp′ sr′ m′ → (n ≡ n′) × ((startOf pc sp sr ≡ startOf pc′ sp′ sr′) × (m ≡ m′))
 one-reading h a b =
+    let k = image-long a in
+    let l = image-long b in
+    let p = ap (λ (u : State). u .reader .line) (complete a (omega arith) .is) in
+    let q = ap (λ (u : State). u .reader .line) (complete b (omega arith) .is) in
     let x = taken h a in
     let y = taken h b in
-    (sym (x .1 .0) ∙ y .1 .0, sym (x .1 .1) ∙ y .1 .1)
+    (omega arith, (sym (x .1 .0) ∙ y .1 .0, sym (x .1 .1) ∙ y .1 .1))
+
+-- ---- only one line can be the lowest that breaks the form
+
+fold-dead : (t : List ℕ) (u : State) → u .reader .broken ≡ true → foldl step u t ≡ u
+fold-dead [] u h = refl
+fold-dead (b ∷ t) u h = ap (λ (w : State). foldl step w t) (dead-stays u b h) ∙ fold-dead t u h
+
+abbrev NoLine : ℕ → List ℕ → Type 0
+NoLine k q = (l v : List ℕ) → q ≡ l ++ v → Good k l → ⊥
+
+-- a line that does not end in order is still open at the end, or broken
+abbrev Unended : ℕ → Start → List ℤ → List ℕ → Type 0
+Unended k st m q = (d : List ℕ) (u : State) → Within k st m d u → NoLine k (d ++ q) → Part k st m (d ++ q) (foldl step u q)
+
+unended-by : (q d : List ℕ) {k : ℕ} {st : Start} {m : List ℤ} {u : State} → Outcome k st m d u → Unended k st m q → NoLine k (d ++ q) → Part k st m (d ++ q) (foldl step u q)
+unended-by q d {u = u} (stays w) go none = go d u w none
+unended-by q d {u = u} (breaks h l) go none =
+    let e = fold-dead q u h in
+    dead′ (ap (λ (w : State). w .reader .broken) e ∙ h) (ap (λ (w : State). w .reader .line) e ∙ l)
+unended-by q d (starts line) go none = absurd (none d q refl (G.first line))
+unended-by q d (writes line) go none = absurd (none d q refl (G.later line))
+
+unended : (k : ℕ) (st : Start) (m : List ℤ) (q : List ℕ) → Unended k st m q
+unended k st m [] d u w none = alive (subst (λ (j : List ℕ). Within k st m j u) (sym (append-nil d)) w)
+unended k st m (b ∷ q) d u w none =
+    let e = append-assoc d (b ∷ []) q in
+    subst (λ (j : List ℕ). Part k st m j (foldl step (step u b) q)) e (unended-by q (d ++ (b ∷ [])) (within-step b w) (unended k st m q) (λ l v z. none l v (sym e ∙ z)))
+
+-- where such a line has a byte, or is the first, its number is the answer
+open-line : {k : ℕ} {st : Start} {m : List ℤ} {q : List ℕ} {u : State} → Part k st m q u → (q ≡ [] → k ≡ 0) → brokenLine (u .reader) ≡ k + 1
+unfolding brokenLine
+open-line (dead′ {u = u} h l) z = dead-line (u .reader) h ∙ l
+open-line (alive (opening i h)) z = refl
+open-line (alive (fields {k} {c = n} {s = w} {a} {f = g} cs r)) z =
+    by-bool ((g .minus || g .digits) || ltb 0 n)
+    (λ t. rw t)
+    (λ t.
+    let o = either-false (g .minus || g .digits) (ltb 0 n) t in
+    let l = ltb-false 0 n (o .1) in
+    let w′ : w ≡ [] = none-yet cs (omega arith) in
+    let a′ = no-sign r (o .0) .0 in
+    let e : w ++ a ≡ [] = rw (w′, a′) in
+    let f = first-has cs (z e) in
+    absurd (omega arith))
+
+next-line : {n : ℕ} {s : List ℕ} {pc sp sr : ℤ} {m : List ℤ} (x y z : ℤ) → Image n s pc sp sr m → Within n (startOf pc sp sr) m [] (state (at (n + 1) (startOf pc sp sr) 0 x y z noField) m)
+next-line x y z (G.image a b) = fields later empty
+
+-- at the start of line k + 1
+record Begun (k : ℕ) (u : State) : Type 0 where
+  st : Start
+  m : List ℤ
+  start : Within k st m [] u
+
+begun : {k : ℕ} {p : List ℕ} → Front k p → length p < 18446744073709551615 → Begun k (readText p)
+unfolding readText
+begun G.nothing h = record { st = start₀; m = emptyCells; start = opening 0 (omega arith) }
+begun (G.lines {k} {p} {pc} {sp} {sr} {m} i) h =
+    let l = image-long i in
+    let r = complete i (omega arith) in
+    record { st = startOf pc sp sr; m = m; start = subst (Within k (startOf pc sp sr) m []) (sym (r .is)) (next-line (r .x) (r .y) (r .z) i) }
+
+-- The line that breaks the form is the one that the reader answers.
+pub broken-at : {k : ℕ} {s : List ℕ} → length s < 18446744073709551615 → Breaks k s → brokenLine (readText s .reader) ≡ k + 1
+unfolding readText
+broken-at {k} {s} h b =
+    let n = ap length (b .cut) ∙ length-append (b .p) (b .q) in
+    let a = begun (b .front) (omega arith) in
+    let e : readText s ≡ foldl step (readText (b .p)) (b .q) = ap readText (b .cut) ∙ foldl-append step (state opened emptyCells) (b .p) (b .q) in
+    ap (λ (u : State). brokenLine (u .reader)) e ∙ open-line (unended k (a .st) (a .m) (b .q) [] (readText (b .p)) (a .start) (b .none)) (b .left)
+
+-- So only one line can be the lowest that breaks the form.
+pub one-broken : {j k : ℕ} {s : List ℕ} → length s < 18446744073709551615 → Breaks j s → Breaks k s → j ≡ k
+one-broken h a b =
+    let x = broken-at h a in
+    let y = broken-at h b in
+    omega arith
+
+-- And none of an image does.
+pub none-broken : {n k : ℕ} {s : List ℕ} {pc sp sr : ℤ} {m : List ℤ} → length s < 18446744073709551615 → Image n s pc sp sr m → Breaks k s → ⊥
+none-broken h i b =
+    let x = taken h i .0 in
+    let y = broken-at h b in
+    omega arith
+
+-- Each text is an image or breaks at a line.
+pub data Judged (s : List ℕ) : Type 0 where
+  image : Accepted s (readText s) → Judged s
+  breaking : (k : ℕ) → Breaks k s → Judged s
+
+pub judged : (s : List ℕ) → length s < 18446744073709551614 → Judged s
+judged s h = go (brokenLine (readText s .reader)) refl
+  where
+    go : (n : ℕ) → brokenLine (readText s .reader) ≡ n → Judged s
+    go zero e = image (accepted s (omega arith) e)
+    go (suc k) e = breaking k (refused s k h (e ∙ omega arith))

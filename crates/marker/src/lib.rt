@@ -3,10 +3,11 @@ use definition::Ran;
 use lines::Reader;
 use lines::Start;
 ghost use mathlib.Core.Path.{_≡_};
-ghost use lib.ListN.{length};
+ghost use lib.ListN.{length, take};
 ghost use Rattle.io.specs.Counts.{Counts};
 ghost use Rattle.definition.specs.Calls.{runCall};
-ghost use Rattle.marker.specs.Image.{startRow, marked};
+ghost use Rattle.lines.specs.Reader.{state};
+ghost use Rattle.marker.specs.Image.{startRow, marked, markText};
 
 // "start,pc,sp,sr" in a row of zeros.
 pub fn put_start(row: &mut [i64], s: Start)
@@ -33,6 +34,7 @@ pub fn run_image(cells: &mut [i64], row: &mut [i64]) -> Ran
 // Puts the mark at the front of out and answers its length.
 pub fn put_mark(cells: &mut [i64], r: Reader, out: &mut [u8]) -> usize
     requires { ⌜ length (now out) ≡ 512 ⌝ }
+    ensures { λ n. ⌜ take n (now (out .exit)) ≡ markText (state r (now (cells .entry))) ⌝ }
     ensures { λ n. ⌜ Counts n (now (out .exit)) ⌝ }
 {
     let line = lines::broken_line(r);

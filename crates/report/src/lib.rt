@@ -1,25 +1,27 @@
-// What the runner prints, as text: the seven lines of a run, or a refusal. 512 bytes hold every such text.
+// What the runner prints, as text: the seven lines of a run, or a refusal. Each function puts a text behind the first `at` bytes of a buffer
+// and answers where the text ends. 512 bytes hold every text.
 use definition::Ran;
 ghost use mathlib.Core.Path.{_≡_};
-ghost use Prim.Native.Nat.{_≤_};
-ghost use lib.ListN.{length};
+ghost use mathlib.Core.List.{[], _∷_, _++_};
+ghost use Prim.Native.Nat.{_+_, _≤_};
+ghost use lib.IntN.{pos};
+ghost use lib.ListN.{length, take};
 ghost use Rattle.io.specs.Counts.{Counts};
+ghost use Rattle.report.specs.Text.{decimal, field, line, answerText, registersText, cellsText, runText, refusalText};
 
 pub fn put_byte(out: &mut [u8], at: usize, b: u8) -> usize
-    requires { ⌜ (at ≤ 512) × (length (now out) ≡ 512) ⌝ }
-    ensures { λ r. ⌜ (at ≤ r) × (r ≤ 512) ⌝ }
-    ensures { λ r. ⌜ Counts r (now (out .exit)) ⌝ }
+    requires { ⌜ at + 1 ≤ length (now out) ⌝ }
+    ensures { λ r. ⌜ take r (now (out .exit)) ≡ take at (now (out .entry)) ++ (b ∷ []) ⌝ }
+    ensures { λ r. ⌜ r ≡ at + 1 ⌝ }
 {
-    if at < 512 {
-        out[at] = b;
-        return at + 1;
-    }
-    at
+    out[at] = b;
+    at + 1
 }
 
 pub fn put(out: &mut [u8], at: usize, s: &[u8]) -> usize
-    requires { ⌜ (at ≤ 512) × (length (now out) ≡ 512) ⌝ }
-    ensures { λ r. ⌜ (at ≤ r) × (r ≤ 512) ⌝ }
+    requires { ⌜ at + length (now s) ≤ length (now out) ⌝ }
+    ensures { λ r. ⌜ take r (now (out .exit)) ≡ take at (now (out .entry)) ++ now (s .entry) ⌝ }
+    ensures { λ r. ⌜ r ≡ at + length (now (s .entry)) ⌝ }
 {
     let mut k = at;
     let mut i: usize = 0;
@@ -31,34 +33,46 @@ pub fn put(out: &mut [u8], at: usize, s: &[u8]) -> usize
     k
 }
 
-pub fn put_natural(out: &mut [u8], at: usize, n: u64) -> usize
-    requires { ⌜ (at ≤ 512) × (length (now out) ≡ 512) ⌝ }
-    ensures { λ r. ⌜ (at ≤ r) × (r ≤ 512) ⌝ }
+pub fn put_decimal(out: &mut [u8], at: usize, n: u64) -> usize
+    requires { ⌜ at + length (decimal n) ≤ length (now out) ⌝ }
+    ensures { λ r. ⌜ take r (now (out .exit)) ≡ take at (now (out .entry)) ++ decimal n ⌝ }
+    ensures { λ r. ⌜ r ≡ at + length (decimal n) ⌝ }
 {
     let mut text = [0u8; 20];
     let k = io::decimal(n, &mut text);
     put(out, at, &text[..k])
 }
 
+// A comma and a number that is not negative.
+pub fn put_count(out: &mut [u8], at: usize, n: u64) -> usize
+    requires { ⌜ at + length (field (pos n)) ≤ length (now out) ⌝ }
+    ensures { λ r. ⌜ take r (now (out .exit)) ≡ take at (now (out .entry)) ++ field (pos n) ⌝ }
+    ensures { λ r. ⌜ r ≡ at + length (field (pos n)) ⌝ }
+{
+    let i = put_byte(out, at, 44);
+    put_decimal(out, i, n)
+}
+
 // A comma and a number.
 pub fn put_field(out: &mut [u8], at: usize, v: i64) -> usize
-    requires { ⌜ (at ≤ 512) × (length (now out) ≡ 512) ⌝ }
-    ensures { λ r. ⌜ (at ≤ r) × (r ≤ 512) ⌝ }
+    requires { ⌜ at + length (field v) ≤ length (now out) ⌝ }
+    ensures { λ r. ⌜ take r (now (out .exit)) ≡ take at (now (out .entry)) ++ field v ⌝ }
+    ensures { λ r. ⌜ r ≡ at + length (field v) ⌝ }
 {
     let n = word::magnitude(v);
-    let i = put_byte(out, at, 44);
     if word::lt(v, 0) {
+        let i = put_byte(out, at, 44);
         let j = put_byte(out, i, 45);
-        return put_natural(out, j, n);
+        return put_decimal(out, j, n);
     }
-    put_natural(out, i, n)
+    put_count(out, at, n)
 }
 
 // A name, its fields and a line end.
 pub fn put_line(out: &mut [u8], at: usize, name: &[u8], fields: &[i64]) -> usize
-    requires { ⌜ (at ≤ 512) × (length (now out) ≡ 512) ⌝ }
-    ensures { λ r. ⌜ (at ≤ r) × (r ≤ 512) ⌝ }
-    ensures { λ r. ⌜ Counts r (now (out .exit)) ⌝ }
+    requires { ⌜ at + length (line (now name) (now fields)) ≤ length (now out) ⌝ }
+    ensures { λ r. ⌜ take r (now (out .exit)) ≡ take at (now (out .entry)) ++ line (now (name .entry)) (now (fields .entry)) ⌝ }
+    ensures { λ r. ⌜ r ≡ at + length (line (now (name .entry)) (now (fields .entry))) ⌝ }
 {
     let mut k = put(out, at, name);
     let mut i: usize = 0;
@@ -72,20 +86,25 @@ pub fn put_line(out: &mut [u8], at: usize, name: &[u8], fields: &[i64]) -> usize
 
 // "stop and detail; steps"
 pub fn put_answer(out: &mut [u8], ran: Ran) -> usize
-    requires { ⌜ length (now out) ≡ 512 ⌝ }
-    ensures { λ r. ⌜ r ≤ 512 ⌝ }
+    requires { ⌜ length (answerText ran) ≤ length (now out) ⌝ }
+    ensures { λ r. ⌜ take r (now (out .exit)) ≡ answerText ran ⌝ }
+    ensures { λ r. ⌜ r ≡ length (answerText ran) ⌝ }
 {
-    let stop = word::of_bits(ran.stop);
-    let detail = word::of_bits(ran.detail);
-    let steps = word::of_bits(ran.steps);
-    let i = put_line(out, 0, b"stop", &[stop, detail]);
-    put_line(out, i, b"steps", &[steps])
+    let i = put(out, 0, b"stop");
+    let i = put_count(out, i, ran.stop);
+    let i = put_count(out, i, ran.detail);
+    let i = put_byte(out, i, 10);
+    let i = put(out, i, b"steps");
+    let i = put_count(out, i, ran.steps);
+    put_byte(out, i, 10)
 }
 
 // "cycles; pc, sp, sr"
 pub fn put_registers(out: &mut [u8], at: usize, row: &[i64]) -> usize
-    requires { ⌜ (at ≤ 512) × ((length (now row) ≡ 16) × (length (now out) ≡ 512)) ⌝ }
-    ensures { λ r. ⌜ r ≤ 512 ⌝ }
+    requires { ⌜ length (now row) ≡ 16 ⌝ }
+    requires { ⌜ at + length (registersText (now row)) ≤ length (now out) ⌝ }
+    ensures { λ r. ⌜ take r (now (out .exit)) ≡ take at (now (out .entry)) ++ registersText (now (row .entry)) ⌝ }
+    ensures { λ r. ⌜ r ≡ at + length (registersText (now (row .entry))) ⌝ }
 {
     let i = put_line(out, at, b"cycles", &row[9..10]);
     put_line(out, i, b"regs", &row[6..9])
@@ -93,9 +112,10 @@ pub fn put_registers(out: &mut [u8], at: usize, row: &[i64]) -> usize
 
 // "cells a and b; output count"
 pub fn put_cells(out: &mut [u8], at: usize, row: &[i64]) -> usize
-    requires { ⌜ (at ≤ 512) × ((length (now row) ≡ 16) × (length (now out) ≡ 512)) ⌝ }
-    ensures { λ r. ⌜ r ≤ 512 ⌝ }
-    ensures { λ r. ⌜ Counts r (now (out .exit)) ⌝ }
+    requires { ⌜ length (now row) ≡ 16 ⌝ }
+    requires { ⌜ at + length (cellsText (now row)) ≤ length (now out) ⌝ }
+    ensures { λ r. ⌜ take r (now (out .exit)) ≡ take at (now (out .entry)) ++ cellsText (now (row .entry)) ⌝ }
+    ensures { λ r. ⌜ r ≡ at + length (cellsText (now (row .entry))) ⌝ }
 {
     let i = put_line(out, at, b"a", &row[0..3]);
     let i = put_line(out, i, b"b", &row[3..6]);
@@ -105,7 +125,7 @@ pub fn put_cells(out: &mut [u8], at: usize, row: &[i64]) -> usize
 // The seven lines.
 pub fn put_run(out: &mut [u8], ran: Ran, row: &[i64]) -> usize
     requires { ⌜ (length (now row) ≡ 16) × (length (now out) ≡ 512) ⌝ }
-    ensures { λ r. ⌜ r ≤ 512 ⌝ }
+    ensures { λ r. ⌜ take r (now (out .exit)) ≡ runText ran (now (row .entry)) ⌝ }
     ensures { λ r. ⌜ Counts r (now (out .exit)) ⌝ }
 {
     let i = put_answer(out, ran);
@@ -116,10 +136,10 @@ pub fn put_run(out: &mut [u8], ran: Ran, row: &[i64]) -> usize
 // "Any refusal prints only `refused,12,line`."
 pub fn put_refusal(out: &mut [u8], line: u64) -> usize
     requires { ⌜ length (now out) ≡ 512 ⌝ }
-    ensures { λ r. ⌜ r ≤ 512 ⌝ }
+    ensures { λ r. ⌜ take r (now (out .exit)) ≡ refusalText line ⌝ }
     ensures { λ r. ⌜ Counts r (now (out .exit)) ⌝ }
 {
     let i = put(out, 0, b"refused,12,");
-    let i = put_natural(out, i, line);
+    let i = put_decimal(out, i, line);
     put_byte(out, i, 10)
 }

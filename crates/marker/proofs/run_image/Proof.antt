@@ -5,31 +5,22 @@ use Rattle.marker.specs.Image.{marked}
 use borrow.Author.Needs.{needs}
 use Rattle.marker.proofs.run_image.Statement.{statement}
 use Rattle.marker.proofs.run_image.Tie as tie
-use Rattle.marker.proofs.run_image.Reads as reads
-use Rattle.marker.proofs.run_image.Lts as lts
-use Rattle.z33.proofs.run.z33_run.Reads as z33-run-reads
 
--- src/lib.rt:30:30
 slice-aggregate-z33-run : tie.Need-slice-aggregate-z33-run
 slice-aggregate-z33-run c = search needs
 
--- src/lib.rt:30:42
 slice-aggregate-z33-run-2 : tie.Need-slice-aggregate-z33-run-2
 slice-aggregate-z33-run-2 c = search needs
 
--- src/lib.rt:30:5
 z33-run-requires : tie.Need-z33-run-requires
 z33-run-requires c κs = search needs
 
--- src/lib.rt:25:1
 same-length : tie.Need-same-length
 same-length c = search needs
 
--- src/lib.rt:25:1
 same-length-2 : tie.Need-same-length-2
 same-length-2 c = search needs
 
--- src/lib.rt:25:1
 returns : tie.Need-returns
 unfolding marked
 returns c = let e = c .before .before .before .before .z33-run .ensures in

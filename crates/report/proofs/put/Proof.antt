@@ -1,50 +1,45 @@
-use mathlib.Core.Path.{_≡_}
-use Prim.Native.Nat.{_≤_, _-_}
-use lib.ListN.{length}
+use mathlib.Core.Path.{_≡_, refl, _∙_}
+use mathlib.Core.List.{[], _∷_, _++_}
+use Prim.Native.Nat.{_+_, _≤_, _-_}
+use native.Mathlib.Omega.{arith}
+use lib.ListN.{length, take, drop, getD}
 use borrow.Author.Needs.{needs}
+use Rattle.report.proofs.Laws.{put-next, put-last, byte-next, drop-end}
 use Rattle.report.proofs.put.Statement.{statement}
 use Rattle.report.proofs.put.Tie as tie
-use Rattle.report.proofs.put.Reads as reads
-use Rattle.report.proofs.put.Lts as lts
-use Rattle.report.proofs.put_byte.Reads as put-byte-reads
 
 abbrev Inv-loop : tie.InvT-loop
-Inv-loop out₀ at s k₀ i₀ out k i = (at ≤ k) × (k ≤ 512) × (length out ≡ 512)
+Inv-loop out₀ at s k₀ i₀ out k i =
+    (i ≤ length s) × (k ≡ at + i) × (length out ≡ length out₀) × (take k out ++ drop i s ≡ take at out₀ ++ s)
 
 abbrev μ-loop : tie.MeasureT-loop
 μ-loop out₀ at s k₀ i₀ out k i = length s - i
 
--- src/lib.rt:26:5
 loop-holds : tie.Need-loop-holds Inv-loop μ-loop
-loop-holds c = search needs
+loop-holds c = (omega arith, omega arith, refl, refl)
 
--- src/lib.rt:27:17
 shared-slice-read-b : tie.Need-shared-slice-read-b Inv-loop μ-loop
 shared-slice-read-b c = search needs
 
--- src/lib.rt:28:9
 put-byte-requires : tie.Need-put-byte-requires Inv-loop μ-loop
-put-byte-requires c κs = search needs
+put-byte-requires c κs = omega arith
 
--- src/lib.rt:29:9
 add-i : tie.Need-add-i Inv-loop μ-loop
 add-i c = search needs
 
--- src/lib.rt:26:5
 loop-less : tie.Need-loop-less Inv-loop μ-loop
 loop-less c = search needs
 
--- src/lib.rt:26:5
 loop-again : tie.Need-loop-again Inv-loop μ-loop
-loop-again c = search needs
+loop-again c = let s = c .before .before .before .before .before .before .before .before .before .args .s .now in let l = c .before .before .before .before .before .before .loop in let o = c .before .before .put-byte in
+    (omega arith, omega (arith, o .ensures .1), o .kept .0 ∙ l .inv .2, put-next (take (l .k) (l .out)) (getD s (l .i) 0 ∷ []) (drop (l .i + 1) s) (o .ensures .0) (byte-next s (l .i) (omega arith)) (l .inv .3))
 
--- src/lib.rt:20:1
 same-length : tie.Need-same-length Inv-loop μ-loop
-same-length c = search needs
+same-length c = c .before .loop .inv .2
 
--- src/lib.rt:20:1
 returns : tie.Need-returns Inv-loop μ-loop
-returns c = search needs
+returns c = let l = c .before .loop in
+    (put-last (take (l .k) (l .out)) (drop-end (c .before .before .before .before .args .s .now) (l .i) (omega arith)) (l .inv .3), omega arith)
 
 pub put-spec : {M : Type 1} → statement M
 put-spec =

@@ -1,64 +1,63 @@
-use mathlib.Core.Path.{_≡_}
-use Prim.Native.Nat.{_≤_, _-_}
-use lib.ListN.{length}
+use mathlib.Core.Path.{_≡_, refl, ap, _∙_}
+use mathlib.Core.List.{[], _∷_, _++_}
+use Prim.Native.Nat.{_+_, _-_, _≤_}
+use native.Mathlib.Omega.{arith}
+use lib.IntN.{pos}
+use lib.ListN.{length, take, drop, getD, length-append}
 use borrow.Author.Needs.{needs}
+use Rattle.word.proofs.Laws.{back}
+use Rattle.report.specs.Text.{field, fields, line}
+use Rattle.report.proofs.Laws.{put-then, put-next, put-last, fields-next, fields-length, fields-end}
 use Rattle.report.proofs.put_line.Statement.{statement}
 use Rattle.report.proofs.put_line.Tie as tie
-use Rattle.report.proofs.put_line.Reads as reads
-use Rattle.report.proofs.put_line.Lts as lts
-use Rattle.report.proofs.put.Reads as put-reads
-use Rattle.report.proofs.put_byte.Reads as put-byte-reads
-use Rattle.report.proofs.put_field.Reads as put-field-reads
 
 abbrev Inv-loop : tie.InvT-loop
-Inv-loop out₀ at name fields k₀ i₀ out k i = (at ≤ k) × (k ≤ 512) × (length out ≡ 512)
+Inv-loop out₀ at name vs k₀ i₀ out k i =
+    (i ≤ length vs) × (k + length (fields (drop i vs)) ≡ k₀ + length (fields vs)) × (length out ≡ length out₀) × (take k out ++ fields (drop i vs) ≡ take k₀ out₀ ++ fields vs)
 
 abbrev μ-loop : tie.MeasureT-loop
-μ-loop out₀ at name fields k₀ i₀ out k i = length fields - i
+μ-loop out₀ at name vs k₀ i₀ out k i = length vs - i
 
--- src/lib.rt:63:9
 put-requires : tie.Need-put-requires Inv-loop μ-loop
-put-requires c κs = search needs
+unfolding line
+put-requires c κs = omega (arith, simp length-append at (c .before .before .before .pre))
 
--- src/lib.rt:65:5
 loop-holds : tie.Need-loop-holds Inv-loop μ-loop
-loop-holds c = search needs
+loop-holds c = (omega arith, refl, refl, refl)
 
--- src/lib.rt:66:17
 mul-v : tie.Need-mul-v Inv-loop μ-loop
 mul-v c = search needs
 
--- src/lib.rt:66:17
 shared-slice-copy-out-v : tie.Need-shared-slice-copy-out-v Inv-loop μ-loop
 shared-slice-copy-out-v c = search needs
 
--- src/lib.rt:67:9
 put-field-requires : tie.Need-put-field-requires Inv-loop μ-loop
-put-field-requires c κs = search needs
+unfolding line
+put-field-requires c κs = let vs = c .before .before .before .before .before .before .before .before .before .before .args .fields .now in let l = c .before .before .before .loop in
+    rw (back (getD vs (l .i) (pos 0)) (c .before .v .given)) (omega (arith, simp length-append at (c .before .before .before .before .before .before .before .before .before .before .pre), fields-length vs (l .i) (omega arith)))
 
--- src/lib.rt:68:9
 add-i : tie.Need-add-i Inv-loop μ-loop
 add-i c = search needs
 
--- src/lib.rt:65:5
 loop-less : tie.Need-loop-less Inv-loop μ-loop
 loop-less c = search needs
 
--- src/lib.rt:65:5
 loop-again : tie.Need-loop-again Inv-loop μ-loop
-loop-again c = search needs
+loop-again c = let vs = c .before .before .before .before .before .before .before .before .before .before .before .before .before .args .fields .now in let l = c .before .before .before .before .before .before .loop in let o = c .before .before .put-field in let b = back (getD vs (l .i) (pos 0)) (c .before .before .before .before .v .given) in
+    (omega arith, omega (arith, rw b at (o .ensures .1), fields-length vs (l .i) (omega arith)), o .kept .0 ∙ l .inv .2, put-next (take (l .k) (l .out)) (field (getD vs (l .i) (pos 0))) (fields (drop (l .i + 1) vs)) (rw b at (o .ensures .0)) (fields-next vs (l .i) (omega arith)) (l .inv .3))
 
--- src/lib.rt:70:5
 put-byte-requires : tie.Need-put-byte-requires Inv-loop μ-loop
-put-byte-requires c κs = search needs
+unfolding line
+put-byte-requires c κs = let vs = c .before .before .before .before .before .before .before .before .before .args .fields .now in let l = c .before .before .loop in
+    omega (arith, simp length-append at (c .before .before .before .before .before .before .before .before .before .pre), ap length (fields-end vs (l .i) (omega arith)))
 
--- src/lib.rt:58:1
 same-length : tie.Need-same-length Inv-loop μ-loop
-same-length c = search needs
+same-length c = c .before .before .put-byte .kept .0 ∙ c .before .before .before .before .before .loop .inv .2 ∙ c .before .before .before .before .before .before .before .before .put .kept .0
 
--- src/lib.rt:58:1
 returns : tie.Need-returns Inv-loop μ-loop
-returns c = search needs
+unfolding line
+returns c = let a = c .before .before .before .before .before .before .before .before .before .before .before .before .args in let vs = a .fields .now in let l = c .before .before .before .before .before .loop in let e = fields-end vs (l .i) (omega arith) in
+    (put-then (take (a .at) (a .out .now)) (a .name .now) (fields vs ++ (10 ∷ [])) (c .before .before .before .before .before .before .before .before .put .ensures .0) (put-then (take (c .before .before .before .before .before .before .before .before .put .result) (c .before .before .before .before .before .before .before .before .put .last .0)) (fields vs) (10 ∷ []) (put-last (take (l .k) (l .out)) e (l .inv .3)) (c .before .before .put-byte .ensures .0)), simp length-append (omega (arith, ap length e)))
 
 pub put-line-spec : {M : Type 1} → statement M
 put-line-spec =

@@ -1,0 +1,66 @@
+use mathlib.Core.Path.{sym, _∙_}
+use native.Mathlib.Omega.{arith}
+use Rattle.lines.specs.Reader.{state}
+use Rattle.marker.proofs.Laws.{refused-mark, run-mark}
+use borrow.Author.Needs.{needs}
+use Rattle.marker.proofs.put_mark.Statement.{statement}
+use Rattle.marker.proofs.put_mark.Tie as tie
+
+broken-line-requires : tie.Need-broken-line-requires
+broken-line-requires c κs = search needs
+
+put-refusal-requires : tie.Need-put-refusal-requires
+put-refusal-requires c κs = search needs
+
+same-length : tie.Need-same-length
+same-length c = search needs
+
+returns : tie.Need-returns
+returns c = let a = c .before .before .before .before .before .before .before .args in
+    (c .before .before .put-refusal .ensures .0 ∙ sym (refused-mark (state (a .r) (a .cells .now)) (c .before .before .before .before .before .broken-line .result) (c .before .before .before .before .before .broken-line .ensures) (c .before .before .before .before .if1 .taken)), c .before .before .put-refusal .ensures .1)
+
+slice-aggregate-put-start : tie.Need-slice-aggregate-put-start
+slice-aggregate-put-start c = search needs
+
+put-start-requires : tie.Need-put-start-requires
+put-start-requires c κs = search needs
+
+slice-aggregate-run-image : tie.Need-slice-aggregate-run-image
+slice-aggregate-run-image c = search needs
+
+run-image-requires : tie.Need-run-image-requires
+run-image-requires c κs = search needs
+
+slice-aggregate-put-run : tie.Need-slice-aggregate-put-run
+slice-aggregate-put-run c = search needs
+
+put-run-requires : tie.Need-put-run-requires
+put-run-requires c κs = search needs
+
+same-length-2 : tie.Need-same-length-2
+same-length-2 c = search needs
+
+same-length-3 : tie.Need-same-length-3
+same-length-3 c = search needs
+
+returns-2 : tie.Need-returns-2
+returns-2 c = let a = c .before .before .before .before .before .before .before .before .before .before .before .before .before .before .before .before .before .args in let m = c .before .before .before .before .before .before .before .run-image .ensures in
+    (c .before .before .put-run .ensures .0 ∙ run-mark (state (a .r) (a .cells .now)) (c .before .before .before .before .before .before .before .before .before .before .before .put-start .last .0) (c .before .before .before .before .before .before .before .run-image .last .1 .0) (c .before .before .before .before .before .before .before .run-image .result) (sym (c .before .before .before .before .before .before .before .before .before .before .before .before .before .before .before .broken-line .ensures) ∙ omega arith) (c .before .before .before .before .before .before .before .before .before .before .before .put-start .ensures) (m .0) (m .1), c .before .before .put-run .ensures .1)
+
+pub put-mark-spec : {M : Type 1} → statement M
+put-mark-spec =
+    tie.close
+    (tie.spec
+    broken-line-requires
+    put-refusal-requires
+    same-length
+    returns
+    slice-aggregate-put-start
+    put-start-requires
+    slice-aggregate-run-image
+    run-image-requires
+    slice-aggregate-put-run
+    put-run-requires
+    same-length-2
+    same-length-3
+    returns-2)

@@ -1,0 +1,85 @@
+use mathlib.Core.Path.{sym, ap, _∙_}
+use mathlib.Core.List.{[], _∷_, _++_}
+use native.Mathlib.Omega.{arith}
+use lib.IntN.{pos}
+use lib.ListN.{length, take, length-append}
+use Rattle.report.specs.Text.{field, fields, line, answerText, stopName, stepsName}
+use Rattle.report.proofs.Laws.{put-then, answer-pieces}
+use borrow.Author.Needs.{needs}
+use Rattle.report.proofs.put_answer.Statement.{statement}
+use Rattle.report.proofs.put_answer.Tie as tie
+
+slice-aggregate-put : tie.Need-slice-aggregate-put
+slice-aggregate-put c = search needs
+
+put-requires : tie.Need-put-requires
+unfolding answerText line fields
+put-requires c κs = omega (arith, simp length-append at (c .before .before .before .pre))
+
+put-count-requires : tie.Need-put-count-requires
+unfolding answerText line fields
+put-count-requires c κs = omega (arith, simp length-append at (c .before .before .before .before .before .before .before .pre))
+
+put-count-requires-2 : tie.Need-put-count-requires-2
+unfolding answerText line fields
+put-count-requires-2 c κs = omega (arith, simp length-append at (c .before .before .before .before .before .before .before .before .before .before .before .pre))
+
+put-byte-requires : tie.Need-put-byte-requires
+unfolding answerText line fields
+put-byte-requires c κs = omega (arith, simp length-append at (c .before .before .before .before .before .before .before .before .before .before .before .before .before .before .before .pre))
+
+slice-aggregate-put-2 : tie.Need-slice-aggregate-put-2
+slice-aggregate-put-2 c = search needs
+
+put-requires-2 : tie.Need-put-requires-2
+unfolding answerText line fields
+put-requires-2 c κs = omega (arith, simp length-append at (c .before .before .before .before .before .before .before .before .before .before .before .before .before .before .before .before .before .before .before .before .pre))
+
+put-count-requires-3 : tie.Need-put-count-requires-3
+unfolding answerText line fields
+put-count-requires-3 c κs = omega (arith, simp length-append at (c .before .before .before .before .before .before .before .before .before .before .before .before .before .before .before .before .before .before .before .before .before .before .before .before .pre))
+
+put-byte-requires-2 : tie.Need-put-byte-requires-2
+unfolding answerText line fields
+put-byte-requires-2 c κs = omega (arith, simp length-append at (c .before .before .before .before .before .before .before .before .before .before .before .before .before .before .before .before .before .before .before .before .before .before .before .before .before .before .before .before .pre))
+
+same-length : tie.Need-same-length
+same-length c = search needs
+
+returns : tie.Need-returns
+returns c = let r = c .before .before .before .before .before .before .before .before .before .before .before .before .before .before .before .before .before .before .before .before .before .before .before .before .before .before .before .before .before .before .before .args .ran in
+    let u = field (pos (r .steps)) ++ (10 ∷ []) in
+    let v = stepsName ++ u in
+    let w = (10 ∷ []) ++ v in
+    let x = field (pos (r .detail)) ++ w in
+    let e₁ = c .before .before .before .before .before .before .before .before .before .before .before .before .before .before .before .before .before .before .before .before .before .before .before .before .before .before .before .put in
+    let e₂ = c .before .before .before .before .before .before .before .before .before .before .before .before .before .before .before .before .before .before .before .before .before .before .before .put-count in
+    let e₃ = c .before .before .before .before .before .before .before .before .before .before .before .before .before .before .before .before .before .before .before .put-count2 in
+    let e₄ = c .before .before .before .before .before .before .before .before .before .before .before .before .before .before .before .put-byte in
+    let e₅ = c .before .before .before .before .before .before .before .before .before .before .put2 in
+    let e₆ = c .before .before .before .before .before .before .put-count3 in (
+      put-then [] stopName (field (pos (r .stop)) ++ x) (e₁ .ensures .0)
+          (put-then (take (e₁ .result) (e₁ .last .0)) (field (pos (r .stop))) x (e₂ .ensures .0)
+          (put-then (take (e₂ .result) (e₂ .last .0)) (field (pos (r .detail))) w (e₃ .ensures .0)
+          (put-then (take (e₃ .result) (e₃ .last .0)) (10 ∷ []) v (e₄ .ensures .0)
+          (put-then (take (e₄ .result) (e₄ .last .0)) stepsName u (e₅ .ensures .0)
+          (put-then (take (e₅ .result) (e₅ .last .0)) (field (pos (r .steps))) (10 ∷ []) (e₆ .ensures .0) (c .before .before .put-byte2 .ensures .0))))))
+          ∙ sym (answer-pieces r),
+      omega (arith, simp length-append at (ap length (answer-pieces r))),
+    )
+
+pub put-answer-spec : {M : Type 1} → statement M
+put-answer-spec =
+    tie.close
+    (tie.spec
+    slice-aggregate-put
+    put-requires
+    put-count-requires
+    put-count-requires-2
+    put-byte-requires
+    slice-aggregate-put-2
+    put-requires-2
+    put-count-requires-3
+    put-byte-requires-2
+    same-length
+    returns)

@@ -1,0 +1,83 @@
+-- What the runner prints (document 01, "The runner"). A text is a list of bytes: 44 is a comma, 45 a minus, 10 a line end.
+use mathlib.Core.Bool.{cond}
+use mathlib.Core.List.{List, [], _∷_, _++_}
+use Prim.Native.Nat.{ℕ, zero, suc, _+_, _/_, _%_}
+use lib.Dec.{ltb}
+use lib.IntN.{ℤ, pos, negsuc}
+use Rattle.definition.specs.declared.Ran.{Ran}
+use Rattle.definition.specs.Calls.{at}
+
+-- The decimal digits of n with no zero in front; of a number with more than k digits, the last k.
+unfoldable pub decimalIn : ℕ → ℕ → List ℕ
+decimalIn zero n = []
+decimalIn (suc k) n = cond (ltb n 10) ((48 + n) ∷ []) (decimalIn k (n / 10) ++ ((48 + n % 10) ∷ []))
+
+-- A number of 64 bits has at most 20 digits.
+abbrev pub decimal : ℕ → List ℕ
+decimal n = decimalIn 20 n
+
+-- As in the input, "decimal digits after an optional minus".
+unfoldable pub numeral : ℤ → List ℕ
+numeral (pos n) = decimal n
+numeral (negsuc n) = 45 ∷ decimal (suc n)
+
+-- A comma and the number.
+abbrev pub field : ℤ → List ℕ
+field v = 44 ∷ numeral v
+
+unfoldable pub fields : List ℤ → List ℕ
+fields [] = []
+fields (v ∷ vs) = field v ++ fields vs
+
+-- A name, its fields and a line end.
+unfoldable pub line : List ℕ → List ℤ → List ℕ
+line name vs = name ++ (fields vs ++ (10 ∷ []))
+
+-- The lines' names: `stop`, `steps`, `cycles`, `regs`, `a`, `b`, `out`, and what a refusal begins with, `refused,12,`.
+abbrev pub stopName : List ℕ
+stopName = 115 ∷ 116 ∷ 111 ∷ 112 ∷ []
+
+abbrev pub stepsName : List ℕ
+stepsName = 115 ∷ 116 ∷ 101 ∷ 112 ∷ 115 ∷ []
+
+abbrev pub cyclesName : List ℕ
+cyclesName = 99 ∷ 121 ∷ 99 ∷ 108 ∷ 101 ∷ 115 ∷ []
+
+abbrev pub regsName : List ℕ
+regsName = 114 ∷ 101 ∷ 103 ∷ 115 ∷ []
+
+abbrev pub aName : List ℕ
+aName = 97 ∷ []
+
+abbrev pub bName : List ℕ
+bName = 98 ∷ []
+
+abbrev pub outName : List ℕ
+outName = 111 ∷ 117 ∷ 116 ∷ []
+
+abbrev pub refusedName : List ℕ
+refusedName = 114 ∷ 101 ∷ 102 ∷ 117 ∷ 115 ∷ 101 ∷ 100 ∷ 44 ∷ 49 ∷ 50 ∷ 44 ∷ []
+
+-- "stop and detail; steps": the lines `stop` and `steps`.
+unfoldable pub answerText : Ran → List ℕ
+answerText ran =
+    line stopName (pos (ran .stop) ∷ pos (ran .detail) ∷ []) ++ line stepsName (pos (ran .steps) ∷ [])
+
+-- "cycles; pc, sp, sr": the lines `cycles` and `regs`.
+unfoldable pub registersText : List ℤ → List ℕ
+registersText row =
+    line cyclesName (at 10 row ∷ []) ++ line regsName (at 7 row ∷ at 8 row ∷ at 9 row ∷ [])
+
+-- "cells a and b; output count": the lines `a`, `b` and `out`.
+unfoldable pub cellsText : List ℤ → List ℕ
+cellsText row =
+    line aName (at 1 row ∷ at 2 row ∷ at 3 row ∷ []) ++ (line bName (at 4 row ∷ at 5 row ∷ at 6 row ∷ []) ++ line outName (at 16 row ∷ []))
+
+-- The seven lines, in document 01's order, of what run answered and the row that it left.
+unfoldable pub runText : Ran → List ℤ → List ℕ
+runText ran row = answerText ran ++ (registersText row ++ cellsText row)
+
+-- "Any refusal prints only `refused,12,line`."
+unfoldable pub refusalText : ℕ → List ℕ
+refusalText n =
+    refusedName ++ (decimal n ++ (10 ∷ []))
