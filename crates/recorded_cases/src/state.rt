@@ -1,6 +1,7 @@
 // How far the replay is, and the first thing that is not as the list says.
 use recorded::compare::Fault;
-ghost use Rattle.replay.specs.Room.{Fits};
+use recorded::text::Next;
+ghost use Rattle.recorded_cases.specs.Room.{Fits};
 
 // The lines that may come next.
 pub const FIRST: u32 = 0;
@@ -16,6 +17,8 @@ pub const AFTER: u32 = 4;
 pub const CALL: u32 = 5;
 
 pub const NONE: u32 = 6;
+
+pub const OVER: u32 = 7;
 
 pub struct State {
     pub phase: u32,
@@ -53,6 +56,12 @@ pub fn fails(f: Fault) -> bool {
     }
 }
 
+// Whether nothing more is to be read.
+pub fn is_over(s: State) -> bool {
+    let fault = s.fault;
+    (s.phase == OVER) | fails(fault)
+}
+
 pub fn with_fault(s: State, f: Fault) -> State
     requires { ⌜ Fits s ⌝ }
     ensures { λ r. ⌜ Fits r ⌝ }
@@ -70,12 +79,19 @@ pub fn with_fault(s: State, f: Fault) -> State
     }
 }
 
+pub fn out_of_range(s: State) -> State
+    requires { ⌜ Fits s ⌝ }
+    ensures { λ r. ⌜ Fits r ⌝ }
+{
+    with_fault(s, Fault::Number)
+}
+
 // A line's numbers are out of range unless ok.
 pub fn checked(s: State, ok: bool) -> State
     requires { ⌜ Fits s ⌝ }
     ensures { λ r. ⌜ Fits r ⌝ }
 {
-    if ok { s } else { with_fault(s, Fault::Number) }
+    if ok { s } else { out_of_range(s) }
 }
 
 // Whether a line of this kind may come.
@@ -111,4 +127,30 @@ pub fn next_line(s: State) -> State
     let mut next = s;
     next.lines = std::num::wrapping_add_u64(s.lines, 1);
     next
+}
+
+// A line is counted; what is none is told at once. The end is due after the last line.
+pub fn told(s: State, next: Next) -> State
+    requires { ⌜ Fits s ⌝ }
+    ensures { λ r. ⌜ Fits r ⌝ }
+{
+    match next {
+        Next::Broken => with_fault(next_line(s), Fault::Text),
+        Next::Cut => with_fault(next_line(s), Fault::End),
+        Next::End => at_end(s),
+        Next::Line(l) => next_line(s),
+        Next::Part => s,
+    }
+}
+
+fn at_end(s: State) -> State
+    requires { ⌜ Fits s ⌝ }
+    ensures { λ r. ⌜ Fits r ⌝ }
+{
+    if s.phase != NONE {
+        return with_fault(next_line(s), Fault::End);
+    }
+    let mut over = s;
+    over.phase = OVER;
+    over
 }

@@ -1,6 +1,4 @@
-// The lines 10 to 14: a call on the machine, its answer compared with the line's.
-use crate::state::AFTER;
-use crate::state::State;
+// The recorded list's calls: the line that opens a case, and the lines 10 to 14, whose answers are compared with the machine's.
 use definition::Address;
 use definition::Done;
 use definition::Drained;
@@ -8,9 +6,17 @@ use definition::Ran;
 use recorded::compare::Answer;
 use recorded::compare::Fault;
 use recorded::reader::Line;
-ghost use Rattle.replay.specs.Room.{Fits};
+use recorded_cases::lines::opened;
+use recorded_cases::lines::size;
+use recorded_cases::state::AFTER;
+use recorded_cases::state::State;
+use recorded_cases::state::out_of_range;
+use recorded_cases::state::with_fault;
+ghost use Rattle.recorded_cases.specs.Room.{Fits};
 ghost use Prim.Native.Nat.{_≤_};
 ghost use lib.ListN.{length};
+
+pub mod act;
 
 // After a call with a drain buffer of so many bytes.
 fn called(s: State, buffer: usize, got: Answer, due: Answer) -> State
@@ -28,13 +34,6 @@ fn called(s: State, buffer: usize, got: Answer, due: Answer) -> State
         lines: s.lines,
         fault: recorded::compare::answers(got, due),
     }
-}
-
-fn bad(s: State) -> State
-    requires { ⌜ Fits s ⌝ }
-    ensures { λ r. ⌜ Fits r ⌝ }
-{
-    crate::state::with_fault(s, Fault::Number)
 }
 
 fn refusal(refusal: u64, place: u64) -> Answer {
@@ -75,7 +74,7 @@ fn drain_in(output: &[u8], o: usize, row: &mut [i64], buffer: &mut [u8], n: usiz
 }
 
 // "call run; it is not refused, and answers so"
-pub fn run(
+fn run(
     s: State,
     l: Line,
     cells: &mut [i64; 30000],
@@ -87,7 +86,7 @@ pub fn run(
     ensures { λ r. ⌜ Fits r ⌝ }
 {
     let Address::At(budget) = word::to_address(l.a) else {
-        return bad(s);
+        return out_of_range(s);
     };
     let q = s.queue;
     let o = s.output;
@@ -110,7 +109,7 @@ pub fn run(
 }
 
 // "call deliver with the bytes of the lines 6 before it"
-pub fn deliver(
+fn deliver(
     s: State,
     l: Line,
     queue: &mut [u8; 256],
@@ -122,8 +121,8 @@ pub fn deliver(
 {
     let q = s.queue;
     let n = s.bytes;
-    if word::to_bits(l.a) != n as u64 {
-        return bad(s);
+    if size(l.a) != n {
+        return out_of_range(s);
     }
     let d = deliver_in(queue, q, row, bytes, n);
     called(
@@ -135,7 +134,7 @@ pub fn deliver(
 }
 
 // "call drain; every byte of the buffer is 0 before"
-pub fn drain(
+fn drain(
     s: State,
     l: Line,
     output: &mut [u8; 4096],
@@ -146,12 +145,9 @@ pub fn drain(
     requires { ⌜ Fits s ⌝ }
     ensures { λ r. ⌜ Fits r ⌝ }
 {
-    let Address::At(length) = word::to_address(l.a) else {
-        return bad(s);
-    };
-    let n = length as usize;
+    let n = size(l.a);
     if 128 < n {
-        return bad(s);
+        return out_of_range(s);
     }
     let o = s.output;
     recorded::clear::clear_bytes(buffer);
@@ -175,12 +171,12 @@ pub fn drain(
 }
 
 // "After 13, stop 0 means that the exception was entered."
-pub fn raise(s: State, l: Line, cells: &mut [i64; 30000], row: &mut [i64; 16]) -> State
+fn raise(s: State, l: Line, cells: &mut [i64; 30000], row: &mut [i64; 16]) -> State
     requires { ⌜ Fits s ⌝ }
     ensures { λ r. ⌜ Fits r ⌝ }
 {
     if l.a < 0 {
-        return bad(s);
+        return out_of_range(s);
     }
     let r = z33::raise::z33_raise(cells, row, word::to_bits(l.a));
     let got = Answer {
@@ -200,12 +196,12 @@ pub fn raise(s: State, l: Line, cells: &mut [i64; 30000], row: &mut [i64; 16]) -
     called(s, 0, got, due)
 }
 
-pub fn set_register(s: State, l: Line, row: &mut [i64; 16]) -> State
+fn set_register(s: State, l: Line, row: &mut [i64; 16]) -> State
     requires { ⌜ Fits s ⌝ }
     ensures { λ r. ⌜ Fits r ⌝ }
 {
     if l.a < 0 {
-        return bad(s);
+        return out_of_range(s);
     }
     let d = z33::register::z33_set_register(row, word::to_bits(l.a), l.b);
     called(
@@ -214,4 +210,58 @@ pub fn set_register(s: State, l: Line, row: &mut [i64; 16]) -> State
         refusal(d.refusal, d.place),
         refusal(word::to_bits(l.c), 0),
     )
+}
+
+// The lines 10 to 14.
+fn call(
+    s: State,
+    kind: u32,
+    l: Line,
+    cells: &mut [i64; 30000],
+    queue: &mut [u8; 256],
+    output: &mut [u8; 4096],
+    row: &mut [i64; 16],
+    bytes: &mut [u8; 8],
+    buffer: &mut [u8; 128],
+    due_buffer: &mut [u8; 128],
+) -> State
+    requires { ⌜ Fits s ⌝ }
+    ensures { λ r. ⌜ Fits r ⌝ }
+{
+    match kind {
+        10 => run(s, l, cells, queue, output, row),
+        11 => deliver(s, l, queue, row, bytes),
+        12 => drain(s, l, output, row, buffer, due_buffer),
+        13 => raise(s, l, cells, row),
+        _ => set_register(s, l, row),
+    }
+}
+
+// "opens a case: all cells empty, all bytes 0, the row's 16 numbers 0"
+fn open(
+    s: State,
+    l: Line,
+    cells: &mut [i64; 30000],
+    due_cells: &mut [i64; 30000],
+    queue: &mut [u8; 256],
+    due_queue: &mut [u8; 256],
+    output: &mut [u8; 4096],
+    due_output: &mut [u8; 4096],
+    row: &mut [i64; 16],
+    due_row: &mut [i64; 16],
+) -> State
+    requires { ⌜ Fits s ⌝ }
+    ensures { λ r. ⌜ Fits r ⌝ }
+{
+    let made = z33::fresh::z33_fresh(cells, row);
+    if made.refusal != 0 {
+        return with_fault(s, Fault::Refusal);
+    }
+    z33::fresh::clear(due_cells);
+    z33::fresh::clear(due_row);
+    recorded::clear::clear_bytes(queue);
+    recorded::clear::clear_bytes(due_queue);
+    recorded::clear::clear_bytes(output);
+    recorded::clear::clear_bytes(due_output);
+    opened(s, l)
 }
