@@ -257,8 +257,8 @@ fn open(
     if made.refusal != 0 {
         return with_fault(s, Fault::Refusal);
     }
-    z33::fresh::clear(due_cells);
-    z33::fresh::clear(due_row);
+    still::fresh::clear(due_cells);
+    still::fresh::clear(due_row);
     recorded::clear::clear_bytes(queue);
     recorded::clear::clear_bytes(due_queue);
     recorded::clear::clear_bytes(output);
