@@ -1,18 +1,8 @@
 use Prim.Native.Nat.{_-_, _≤_}
-use native.Mathlib.Omega.{arith}
 use Rattle.recorded_cases.specs.Room.{Fits}
 use borrow.Author.Needs.{needs}
 use Rattle.replay.proofs.stream.take_all.Statement.{statement}
 use Rattle.replay.proofs.stream.take_all.Tie as tie
-use Rattle.replay.proofs.stream.take_all.Reads as reads
-use Rattle.replay.proofs.stream.take_all.Lts as lts
-use Rattle.io.proofs.large_buffer.Reads as large-buffer-reads
-use Rattle.recorded_calls.proofs.act.act.Reads as act-reads
-use Rattle.recorded_cases.proofs.state.at_start.Reads as state-at-start-reads
-use Rattle.recorded_cases.proofs.state.is_over.Reads as is-over-reads
-use Rattle.recorded_cases.proofs.state.with_fault.Reads as with-fault-reads
-use Rattle.replay.proofs.stream.at_start.Reads as stream-at-start-reads
-use Rattle.replay.proofs.stream.read_on.Reads as read-on-reads
 
 abbrev Inv-loop : tie.InvT-loop
 Inv-loop cells₀ due-cells₀ queue₀ due-queue₀ output₀ due-output₀ row₀ due-row₀ bytes₀ buffer₀ due-buffer₀ text₀ unread₀ state₀ turns₀ cells due-cells queue due-queue output due-output row due-row bytes buffer due-buffer text unread state turns =
@@ -22,55 +12,42 @@ abbrev μ-loop : tie.MeasureT-loop
 μ-loop cells₀ due-cells₀ queue₀ due-queue₀ output₀ due-output₀ row₀ due-row₀ bytes₀ buffer₀ due-buffer₀ text₀ unread₀ state₀ turns₀ cells due-cells queue due-queue output due-output row due-row bytes buffer due-buffer text unread state turns =
     4294967295 - turns
 
--- src/stream.rt:91:20
 large-buffer-requires : tie.Need-large-buffer-requires Inv-loop μ-loop
 large-buffer-requires c κs = search needs
 
--- src/stream.rt:92:9
 at-start-requires : tie.Need-at-start-requires Inv-loop μ-loop
 at-start-requires c κs = search needs
 
--- src/stream.rt:93:9
 at-start-requires-2 : tie.Need-at-start-requires-2 Inv-loop μ-loop
 at-start-requires-2 c κs = search needs
 
--- src/stream.rt:95:5
 loop-holds : tie.Need-loop-holds Inv-loop μ-loop
 loop-holds c = search needs
 
--- src/stream.rt:96:12
 is-over-requires : tie.Need-is-over-requires Inv-loop μ-loop
 is-over-requires c κs = search needs
 
--- src/stream.rt:97:13
 returns : tie.Need-returns Inv-loop μ-loop
 returns c = search needs
 
--- src/stream.rt:99:9
 add-turns : tie.Need-add-turns Inv-loop μ-loop
 add-turns c = search needs
 
--- src/stream.rt:100:13
 read-on-requires : tie.Need-read-on-requires Inv-loop μ-loop
 read-on-requires c κs = search needs
 
--- src/stream.rt:103:9
 act-requires : tie.Need-act-requires Inv-loop μ-loop
 act-requires c κs = search needs
 
--- src/stream.rt:95:5
 loop-less : tie.Need-loop-less Inv-loop μ-loop
 loop-less c = search needs
 
--- src/stream.rt:95:5
 loop-again : tie.Need-loop-again Inv-loop μ-loop
 loop-again c = search needs
 
--- src/stream.rt:119:5
 with-fault-requires : tie.Need-with-fault-requires Inv-loop μ-loop
 with-fault-requires c κs = search needs
 
--- src/stream.rt:78:1
 returns-2 : tie.Need-returns-2 Inv-loop μ-loop
 returns-2 c = search needs
 
