@@ -5,3 +5,4 @@ pub mod number;
 pub mod place;
 pub mod reader;
 pub mod same;
+pub mod text;

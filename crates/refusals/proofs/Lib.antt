@@ -1,4 +1,2 @@
 pub mod Verdict
 pub mod Passed
-pub mod RowBack
-pub mod Lists

@@ -1,8 +1,5 @@
 // "Turned back, in checking order": each check answers what the definition's check of the call says.
 use definition::Done;
-
-pub mod row;
-
 ghost use mathlib.Core.Path.{_≡_};
 ghost use mathlib.Core.Bool.{cond, _&&_, _||_};
 ghost use Prim.Native.Nat.{_+_, _%_, _<_, _≤_};

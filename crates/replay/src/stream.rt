@@ -1,197 +1,80 @@
-// Standard input, byte by byte.
-use crate::state::NONE;
-use crate::state::State;
-use crate::state::fails;
-use crate::state::next_line;
-use crate::state::with_fault;
+// The list on standard input, line by line.
 use libc::STDIN_FILENO;
 use recorded::compare::Fault;
-use recorded::reader::Fed;
 use recorded::reader::Reader;
-ghost use Rattle.replay.specs.Room.{Fits};
+use recorded::text::Next;
+use recorded_cases::state::State;
+use recorded_cases::state::is_over;
+use recorded_cases::state::with_fault;
+ghost use mathlib.Core.Path.{_≡_};
+ghost use Prim.Native.Nat.{_≤_};
+ghost use lib.ListN.{length};
 
-pub struct Stream {
+// What the last read gave, from at to end, and what was read of a line before.
+pub struct Unread {
+    pub at: usize,
+    pub end: usize,
     pub reader: Reader,
-    pub state: State,
-    pub ended: bool,
 }
 
-pub fn at_start() -> Stream
-    ensures { λ r. ⌜ Fits (r .state) ⌝ }
+pub struct Step {
+    pub unread: Unread,
+    pub next: Next,
+}
+
+fn at_start() -> Unread
+    ensures { λ r. ⌜ r .end ≤ 65536 ⌝ }
 {
-    Stream {
+    Unread {
+        at: 0,
+        end: 0,
         reader: recorded::reader::at_start(),
-        state: crate::state::at_start(),
-        ended: false,
     }
 }
 
-fn take_byte(
-    w: Stream,
-    byte: u8,
-    cells: &mut [i64; 30000],
-    due_cells: &mut [i64; 30000],
-    queue: &mut [u8; 256],
-    due_queue: &mut [u8; 256],
-    output: &mut [u8; 4096],
-    due_output: &mut [u8; 4096],
-    row: &mut [i64; 16],
-    due_row: &mut [i64; 16],
-    bytes: &mut [u8; 8],
-    buffer: &mut [u8; 128],
-    due_buffer: &mut [u8; 128],
-) -> Stream
-    requires { ⌜ Fits (w .state) ⌝ }
-    ensures { λ r. ⌜ Fits (r .state) ⌝ }
+// The next line of what was read, or a part of one.
+fn scan(text: &[u8], u: Unread) -> Step
+    requires { ⌜ u .end ≤ length (now text) ⌝ }
+    ensures { λ r. ⌜ r .unread .end ≡ u .end ⌝ }
 {
-    let state = w.state;
-    match recorded::reader::feed(w.reader, byte) {
-        Fed::More(reader) => Stream {
+    let found = recorded::text::scan(text, u.at, u.end, u.reader);
+    let reader = found.reader;
+    let next = found.next;
+    Step {
+        unread: Unread {
+            at: found.at,
+            end: u.end,
             reader,
-            state,
-            ended: false,
         },
-        Fed::Whole(l) => Stream {
-            reader: recorded::reader::at_start(),
-            state: crate::lines::act(
-                next_line(state),
-                l,
-                cells,
-                due_cells,
-                queue,
-                due_queue,
-                output,
-                due_output,
-                row,
-                due_row,
-                bytes,
-                buffer,
-                due_buffer,
-            ),
-            ended: false,
-        },
-        Fed::Broken => Stream {
-            reader: recorded::reader::at_start(),
-            state: with_fault(next_line(state), Fault::Text),
-            ended: false,
-        },
+        next,
     }
 }
 
-// The bytes in order, up to the first fault.
-fn take_bytes(
-    before: Stream,
-    text: &[u8],
-    cells: &mut [i64; 30000],
-    due_cells: &mut [i64; 30000],
-    queue: &mut [u8; 256],
-    due_queue: &mut [u8; 256],
-    output: &mut [u8; 4096],
-    due_output: &mut [u8; 4096],
-    row: &mut [i64; 16],
-    due_row: &mut [i64; 16],
-    bytes: &mut [u8; 8],
-    buffer: &mut [u8; 128],
-    due_buffer: &mut [u8; 128],
-) -> Stream
-    requires { ⌜ Fits (before .state) ⌝ }
-    ensures { λ r. ⌜ Fits (r .state) ⌝ }
+// The next line; where all was read that the last read gave, a read; nothing read is the end.
+fn read_on(text: &mut [u8; 65536], u: Unread) -> Step
+    requires { ⌜ u .end ≤ 65536 ⌝ }
+    ensures { λ r. ⌜ r .unread .end ≤ 65536 ⌝ }
 {
-    let mut w = before;
-    let mut i = 0;
-    while i < text.len() {
-        if is_stopped(w) {
-            return w;
-        }
-        let byte = text[i];
-        i += 1;
-        w = take_byte(
-            w,
-            byte,
-            cells,
-            due_cells,
-            queue,
-            due_queue,
-            output,
-            due_output,
-            row,
-            due_row,
-            bytes,
-            buffer,
-            due_buffer,
-        );
+    if u.at < u.end {
+        return scan(text, u);
     }
-    w
-}
-
-fn is_stopped(w: Stream) -> bool {
-    let state = w.state;
-    let fault = state.fault;
-    w.ended | fails(fault)
-}
-
-// One read of the input; nothing read is its end.
-fn take_some(
-    w: Stream,
-    cells: &mut [i64; 30000],
-    due_cells: &mut [i64; 30000],
-    queue: &mut [u8; 256],
-    due_queue: &mut [u8; 256],
-    output: &mut [u8; 4096],
-    due_output: &mut [u8; 4096],
-    row: &mut [i64; 16],
-    due_row: &mut [i64; 16],
-    bytes: &mut [u8; 8],
-    buffer: &mut [u8; 128],
-    due_buffer: &mut [u8; 128],
-) -> Stream
-    requires { ⌜ Fits (w .state) ⌝ }
-    ensures { λ r. ⌜ Fits (r .state) ⌝ }
-{
-    let mut text = io::large_buffer();
-    let n = io::read_full(STDIN_FILENO, &mut text);
+    let n = io::read_full(STDIN_FILENO, text);
+    let reader = u.reader;
+    let unread = Unread {
+        at: 0,
+        end: n,
+        reader,
+    };
     if n == 0 {
-        return end(w);
-    }
-    take_bytes(
-        w,
-        &text[..n],
-        cells,
-        due_cells,
-        queue,
-        due_queue,
-        output,
-        due_output,
-        row,
-        due_row,
-        bytes,
-        buffer,
-        due_buffer,
-    )
-}
-
-// The end of the input is due after the last line.
-fn end(w: Stream) -> Stream
-    requires { ⌜ Fits (w .state) ⌝ }
-    ensures { λ r. ⌜ Fits (r .state) ⌝ }
-{
-    let reader = w.reader;
-    let state = w.state;
-    if (state.phase == NONE) & recorded::reader::is_at_start(reader) {
-        return Stream {
-            reader,
-            state,
-            ended: true,
+        return Step {
+            unread,
+            next: recorded::text::ended(reader),
         };
     }
-    Stream {
-        reader,
-        state: with_fault(next_line(state), Fault::End),
-        ended: true,
-    }
+    scan(text, unread)
 }
 
-// All of the input, in as many reads as it takes; a list of 4 GB or more is not read to its end.
+// All of the input; of a list of 4 GB or more the end may not be reached.
 pub fn take_all(
     cells: &mut [i64; 30000],
     due_cells: &mut [i64; 30000],
@@ -205,15 +88,21 @@ pub fn take_all(
     buffer: &mut [u8; 128],
     due_buffer: &mut [u8; 128],
 ) -> State {
-    let mut w = at_start();
-    let mut reads: u32 = 0;
-    while reads < 65536 {
-        if is_stopped(w) {
-            return w.state;
+    let mut text = io::large_buffer();
+    let mut unread = at_start();
+    let mut state = recorded_cases::state::at_start();
+    let mut turns: u32 = 0;
+    while turns < 4294967295 {
+        if is_over(state) {
+            return state;
         }
-        reads += 1;
-        w = take_some(
-            w,
+        turns += 1;
+        let s = read_on(&mut text, unread);
+        let next = s.next;
+        unread = s.unread;
+        state = recorded_calls::act::act(
+            state,
+            next,
             cells,
             due_cells,
             queue,
@@ -227,5 +116,5 @@ pub fn take_all(
             due_buffer,
         );
     }
-    with_fault(w.state, Fault::End)
+    with_fault(state, Fault::End)
 }

@@ -53,7 +53,7 @@ pub extern "C" fn z33_raise(cells: &mut [i64], row: &mut [i64], code: u64) -> Ra
             let k = after.k;
             runtime::entry::write_over(cells, x.at, v);
             runtime::commit::save_entry(cells, x.enters, x.pc, x.sr, x.code);
-            refusals::row::write_row(row, s, after.cycles, k);
+            row::write_row(row, s, after.cycles, k);
             return Raised {
                 refusal: 0,
                 place: 0,

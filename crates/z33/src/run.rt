@@ -7,7 +7,7 @@ ghost use lib.ListN.{length};
 ghost use Rattle.definition.specs.Calls.{at, called, lent, runCall};
 ghost use Rattle.definition.specs.Computer.{core};
 ghost use Rattle.definition.specs.Runtime.{machine};
-ghost use Rattle.refusals.specs.Row.{Below};
+ghost use Rattle.row.specs.Row.{Below};
 ghost use Rattle.z33.specs.Meaning.{rowState};
 
 // The machine in an accepted row.
@@ -16,9 +16,9 @@ pub fn state(row: &[i64]) -> State
     ensures { λ r. ⌜ r ≡ rowState (now (row .entry)) ⌝ }
 {
     State {
-        s: refusals::row::registers(row),
-        cycles: refusals::row::number_at(row, 9),
-        k: refusals::row::console_state(row),
+        s: row::registers(row),
+        cycles: row::number_at(row, 9),
+        k: row::console_state(row),
     }
 }
 
@@ -41,7 +41,7 @@ pub extern "C" fn z33_run(
         let after = e.m;
         let s = after.s;
         let k = after.k;
-        refusals::row::write_row(row, s, after.cycles, k);
+        row::write_row(row, s, after.cycles, k);
         return Ran {
             refusal: 0,
             place: 0,

@@ -2,34 +2,23 @@
 //! `compare long STEPS [SEED]`: about so many steps more.
 //! `compare record FILE`: writes the recorded list.
 
+use std::fs;
 use std::process::ExitCode;
-use std::{env, fs};
 
 use compare::harness::Harness;
 use compare::modes::{self, Size};
 use compare::record;
+use list::command::{number, tell};
 
 fn main() -> ExitCode {
-    let arguments: Vec<String> = env::args().skip(1).collect();
-    let arguments: Vec<&str> = arguments.iter().map(String::as_str).collect();
-    let lines = match arguments[..] {
+    tell("judge", |arguments| match *arguments {
         ["check"] => check(&modes::CHECK, "1"),
         ["check", seed] => check(&modes::CHECK, seed),
         ["long", steps] => long(steps, "1000"),
         ["long", steps, seed] => long(steps, seed),
         ["record", file] => write_list(file),
         _ => Err("compare check [SEED] | long STEPS [SEED] | record FILE".into()),
-    };
-    match lines {
-        Ok(lines) => {
-            println!("{}", lines.join("\n"));
-            ExitCode::SUCCESS
-        }
-        Err(why) => {
-            println!("judge: {why}");
-            ExitCode::FAILURE
-        }
-    }
+    })
 }
 
 fn check(size: &Size, seed: &str) -> Result<Vec<String>, String> {
@@ -51,8 +40,4 @@ fn write_list(file: &str) -> Result<Vec<String>, String> {
         list.steps,
         list.text.len()
     )])
-}
-
-fn number(text: &str) -> Result<u64, String> {
-    text.parse().map_err(|_| format!("{text} is no number"))
 }

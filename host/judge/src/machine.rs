@@ -188,7 +188,6 @@ impl Judge {
         self.row = self.registers_now();
     }
 
-
     /// The refusal's number, 0 where the bytes were delivered.
     pub fn deliver(&mut self, bytes: &[u8]) -> u64 {
         self.changed.clear();

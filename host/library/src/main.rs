@@ -2,32 +2,20 @@
 //! and the model of the calls.
 //! `library long STEPS [SEED]`: about so many steps more against the judge.
 
-use std::env;
 use std::process::ExitCode;
 
 use compare::modes::Size;
 use library::CHECK;
+use list::command::{number, tell};
 
 fn main() -> ExitCode {
-    let arguments: Vec<String> = env::args().skip(1).collect();
-    let arguments: Vec<&str> = arguments.iter().map(String::as_str).collect();
-    let lines = match arguments[..] {
+    tell("library", |arguments| match *arguments {
         ["check", list] => check(list, "1"),
         ["check", list, seed] => check(list, seed),
         ["long", steps] => long(steps, "1000"),
         ["long", steps, seed] => long(steps, seed),
         _ => Err("library check LIST [SEED] | long STEPS [SEED]".into()),
-    };
-    match lines {
-        Ok(lines) => {
-            println!("{}", lines.join("\n"));
-            ExitCode::SUCCESS
-        }
-        Err(why) => {
-            println!("library: {why}");
-            ExitCode::FAILURE
-        }
-    }
+    })
 }
 
 /// The short parts first: what they notice is told at once.
@@ -40,8 +28,4 @@ fn check(list: &str, seed: &str) -> Result<Vec<String>, String> {
 
 fn long(steps: &str, seed: &str) -> Result<Vec<String>, String> {
     library::compared(&Size::of(number(steps)? as usize), number(seed)?)
-}
-
-fn number(text: &str) -> Result<u64, String> {
-    text.parse().map_err(|_| format!("{text} is no number"))
 }

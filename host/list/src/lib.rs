@@ -2,6 +2,7 @@
 //! None of it needs the original.
 
 mod case;
+pub mod command;
 mod lent;
 mod reader;
 mod writer;

@@ -1,25 +1,19 @@
 //! Replays a recorded list on the plain interpreter: `replay FILE`. The original is not needed.
 
+use std::fs;
 use std::process::ExitCode;
-use std::{env, fs};
 
 fn main() -> ExitCode {
-    match replayed() {
-        Ok((cases, calls)) => {
-            println!(
-                "recorded list: {cases} cases, {calls} calls, the plain interpreter answers each the same"
-            );
-            ExitCode::SUCCESS
-        }
-        Err(why) => {
-            println!("recorded list: {why}");
-            ExitCode::FAILURE
-        }
-    }
+    list::command::tell("recorded list", |arguments| match arguments {
+        [path] => replayed(path),
+        _ => Err("which file?".into()),
+    })
 }
 
-fn replayed() -> Result<(usize, usize), String> {
-    let path = env::args().nth(1).ok_or("which file?")?;
-    let text = fs::read_to_string(&path).map_err(|why| format!("{path}: {why}"))?;
-    list::replay(&text, &mut list::Plain)
+fn replayed(path: &str) -> Result<Vec<String>, String> {
+    let text = fs::read_to_string(path).map_err(|why| format!("{path}: {why}"))?;
+    let (cases, calls) = list::replay(&text, &mut list::Plain)?;
+    Ok(vec![format!(
+        "recorded list: {cases} cases, {calls} calls, the plain interpreter answers each the same"
+    )])
 }

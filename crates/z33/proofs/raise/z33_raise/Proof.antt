@@ -20,7 +20,7 @@ use Rattle.z33.proofs.raise.z33_raise.Tie as tie
 use Rattle.z33.proofs.raise.z33_raise.Reads as reads
 use Rattle.z33.proofs.raise.z33_raise.Lts as lts
 use Rattle.refusals.proofs.raise_check.Reads as raise-check-reads
-use Rattle.refusals.proofs.row.write_row.Reads as write-row-reads
+use Rattle.row.proofs.write_row.Reads as write-row-reads
 use Rattle.runtime.proofs.commit.save_entry.Reads as save-entry-reads
 use Rattle.runtime.proofs.decide.decide.Reads as decide-reads
 use Rattle.runtime.proofs.entry.write_over.Reads as write-over-reads

@@ -4,9 +4,9 @@ use Rattle.z33.proofs.run.state.Statement.{statement}
 use Rattle.z33.proofs.run.state.Tie as tie
 use Rattle.z33.proofs.run.state.Reads as reads
 use Rattle.z33.proofs.run.state.Lts as lts
-use Rattle.refusals.proofs.row.console_state.Reads as console-state-reads
-use Rattle.refusals.proofs.row.number_at.Reads as number-at-reads
-use Rattle.refusals.proofs.row.registers.Reads as registers-reads
+use Rattle.row.proofs.console_state.Reads as console-state-reads
+use Rattle.row.proofs.number_at.Reads as number-at-reads
+use Rattle.row.proofs.registers.Reads as registers-reads
 
 -- src/run.rt:19:12
 registers-requires : tie.Need-registers-requires

@@ -19,7 +19,7 @@ use Rattle.z33.proofs.run.z33_run.Tie as tie
 use Rattle.z33.proofs.run.z33_run.Reads as reads
 use Rattle.z33.proofs.run.z33_run.Lts as lts
 use Rattle.computer.proofs.run.Reads as run-reads
-use Rattle.refusals.proofs.row.write_row.Reads as write-row-reads
+use Rattle.row.proofs.write_row.Reads as write-row-reads
 use Rattle.refusals.proofs.run_check.Reads as run-check-reads
 use Rattle.z33.proofs.run.state.Reads as state-reads
 

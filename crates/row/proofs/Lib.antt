@@ -1,0 +1,2 @@
+pub mod RowBack
+pub mod Lists

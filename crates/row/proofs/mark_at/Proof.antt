@@ -1,0 +1,20 @@
+-- `row::mark_at` meets its contract.
+use borrow.Author.Needs.{needs}
+use Rattle.word.proofs.Laws.{back}
+use Rattle.row.proofs.mark_at.Statement.{statement}
+use Rattle.row.proofs.mark_at.Tie as tie
+
+mul-z : tie.Need-mul-z
+mul-z c = search needs
+
+shared-slice-copy-out-z : tie.Need-shared-slice-copy-out-z
+shared-slice-copy-out-z c = search needs
+
+eq-requires : tie.Need-eq-requires
+eq-requires c κs = search needs
+
+returns : tie.Need-returns
+returns c = rw (back _ (c .before .z .given)) at (c .eq .ensures)
+
+pub mark-at-spec : {M : Type 1} → statement M
+mark-at-spec = tie.close (tie.spec mul-z shared-slice-copy-out-z eq-requires returns)

@@ -1,0 +1,174 @@
+// The row of 16 numbers: its parts read into structs, and written back. Places count from 0 here.
+use console::ConsoleState;
+use definition::Cell;
+use definition::Marks;
+use definition::Registers;
+ghost use mathlib.Core.Path.{_≡_};
+ghost use mathlib.Core.List.{[]};
+ghost use Prim.Native.Nat.{_+_, _<_, _^_};
+ghost use lib.IntN.{pos, natAbs};
+ghost use lib.ListN.{length, getD, set};
+ghost use Rattle.definition.specs.Word.{eqZ};
+ghost use Rattle.definition.specs.Memory.{cell};
+ghost use Rattle.definition.specs.Calls.{at, mark, rowOf, deliveredRow};
+ghost use Rattle.definition.specs.Computer.{core};
+ghost use Rattle.definition.specs.Runtime.{machine};
+ghost use Rattle.console.specs.State.{consoleOf};
+ghost use Rattle.row.specs.Row.{Below, registersOf, marksOf, stateOf};
+
+pub fn number_at(row: &[i64], i: usize) -> u64
+    requires { ⌜ i < length (now row) ⌝ }
+    ensures { λ r. ⌜ r ≡ natAbs (getD (now (row .entry)) i (pos 0)) ⌝ }
+{
+    let z = row[i];
+    word::magnitude(z)
+}
+
+pub fn mark_at(row: &[i64], i: usize) -> bool
+    requires { ⌜ i < length (now row) ⌝ }
+    ensures { λ r. ⌜ r ≡ eqZ (getD (now (row .entry)) i (pos 0)) (pos 1) ⌝ }
+{
+    let z = row[i];
+    word::eq(z, 1)
+}
+
+pub fn cell_at(row: &[i64], i: usize) -> Cell
+    requires { ⌜ i + 2 < length (now row) ⌝ }
+    ensures { λ r. ⌜ r ≡ cell (getD (now (row .entry)) i (pos 0)) (getD (now (row .entry)) (i + 1) (pos 0)) (getD (now (row .entry)) (i + 2) (pos 0)) ⌝ }
+{
+    Cell {
+        tag: row[i],
+        first: row[i + 1],
+        second: row[i + 2],
+    }
+}
+
+pub fn registers(row: &[i64]) -> Registers
+    requires { ⌜ (length (now row) ≡ 16) × (Below (2 ^ 32) (at 7 (now row)) × Below (2 ^ 32) (at 8 (now row))) ⌝ }
+    ensures { λ r. ⌜ r ≡ registersOf (now (row .entry)) ⌝ }
+{
+    let sr = row[8];
+    Registers {
+        a: cell_at(row, 0),
+        b: cell_at(row, 3),
+        pc: number_at(row, 6) as u32,
+        sp: number_at(row, 7) as u32,
+        sr,
+    }
+}
+
+pub fn marks(row: &[i64]) -> Marks
+    requires { ⌜ length (now row) ≡ 16 ⌝ }
+    ensures { λ r. ⌜ r ≡ marksOf (now (row .entry)) ⌝ }
+{
+    Marks {
+        enable: mark_at(row, 10),
+        flag: mark_at(row, 11),
+        pending: mark_at(row, 12),
+    }
+}
+
+pub fn console_state(row: &[i64]) -> ConsoleState
+    requires { ⌜ length (now row) ≡ 16 ⌝ }
+    ensures { λ r. ⌜ r ≡ stateOf (now (row .entry)) ⌝ }
+{
+    ConsoleState {
+        marks: marks(row),
+        start: number_at(row, 13) as usize,
+        count: number_at(row, 14) as usize,
+        written: number_at(row, 15) as usize,
+    }
+}
+
+pub fn mark_number(on: bool) -> i64
+    ensures { λ r. ⌜ r ≡ mark on ⌝ }
+{
+    if on { 1 } else { 0 }
+}
+
+pub fn put(row: &mut [i64], i: usize, z: i64)
+    requires { ⌜ i < length (now row) ⌝ }
+    ensures { λ r. ⌜ now (row .exit) ≡ set (now (row .entry)) i z ⌝ }
+{
+    row[i] = z;
+}
+
+pub fn put_cell(row: &mut [i64], i: usize, v: Cell)
+    requires { ⌜ i + 2 < length (now row) ⌝ }
+    ensures { λ r. ⌜ now (row .exit) ≡ set (set (set (now (row .entry)) i (v .tag)) (i + 1) (v .first)) (i + 2) (v .second) ⌝ }
+{
+    let tag = v.tag;
+    let first = v.first;
+    let second = v.second;
+    row[i] = tag;
+    row[i + 1] = first;
+    row[i + 2] = second;
+}
+
+// pc, sp, sr and cycles.
+pub fn put_numbers(row: &mut [i64], s: Registers, cycles: u64)
+    requires { ⌜ (length (now row) ≡ 16) × (cycles < 2 ^ 63) ⌝ }
+    ensures { λ r. ⌜ now (row .exit) ≡ set (set (set (set (now (row .entry)) 6 (pos (s .pc))) 7 (pos (s .sp))) 8 (s .sr)) 9 (pos cycles) ⌝ }
+{
+    let pc = s.pc as i64;
+    let sp = s.sp as i64;
+    let sr = s.sr;
+    let spent = cycles as i64;
+    row[6] = pc;
+    row[7] = sp;
+    row[8] = sr;
+    row[9] = spent;
+}
+
+pub fn put_marks(row: &mut [i64], k: Marks)
+    requires { ⌜ length (now row) ≡ 16 ⌝ }
+    ensures { λ r. ⌜ now (row .exit) ≡ set (set (set (now (row .entry)) 10 (mark (k .enable))) 11 (mark (k .flag))) 12 (mark (k .pending)) ⌝ }
+{
+    let enable = mark_number(k.enable);
+    let flag = mark_number(k.flag);
+    let pending = mark_number(k.pending);
+    row[10] = enable;
+    row[11] = flag;
+    row[12] = pending;
+}
+
+pub fn put_console(row: &mut [i64], k: ConsoleState)
+    requires { ⌜ (length (now row) ≡ 16) × ((k .start < 2 ^ 63) × ((k .count < 2 ^ 63) × (k .written < 2 ^ 63))) ⌝ }
+    ensures { λ r. ⌜ now (row .exit) ≡ set (set (set (now (row .entry)) 13 (pos (k .start))) 14 (pos (k .count))) 15 (pos (k .written)) ⌝ }
+{
+    let start = k.start as i64;
+    let count = k.count as i64;
+    let written = k.written as i64;
+    row[13] = start;
+    row[14] = count;
+    row[15] = written;
+}
+
+// The whole row anew.
+pub fn write_row(row: &mut [i64], s: Registers, cycles: u64, k: ConsoleState)
+    requires { ⌜ (length (now row) ≡ 16) × ((cycles < 2 ^ 63) × ((k .start < 2 ^ 63) × ((k .count < 2 ^ 63) × (k .written < 2 ^ 63)))) ⌝ }
+    ensures { λ r. ⌜ now (row .exit) ≡ rowOf (machine (core [] s) cycles (consoleOf k [] [])) ⌝ }
+{
+    let a = s.a;
+    let b = s.b;
+    let marks = k.marks;
+    put_cell(row, 0, a);
+    put_cell(row, 3, b);
+    put_numbers(row, s, cycles);
+    put_marks(row, marks);
+    put_console(row, k);
+}
+
+// The row after n bytes were delivered.
+pub fn put_delivered(row: &mut [i64], n: usize)
+    requires { ⌜ (length (now row) ≡ 16) × (natAbs (at 15 (now row)) + n < 2 ^ 63) ⌝ }
+    ensures { λ r. ⌜ now (row .exit) ≡ deliveredRow n (now (row .entry)) ⌝ }
+{
+    let k = marks::input_pushed(marks(row), n);
+    let flag = mark_number(k.flag);
+    let pending = mark_number(k.pending);
+    let count = (number_at(row, 14) + n as u64) as i64;
+    row[11] = flag;
+    row[12] = pending;
+    row[14] = count;
+}
