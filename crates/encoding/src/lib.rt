@@ -85,10 +85,10 @@ pub fn decode(costs: &[u8; 1188], t: u32, first: i64, second: i64) -> Instr
     ensures { λ r. ⌜ instrOf r ≡ decode t first second ⌝ }
 {
     let k = place(t);
+    let r = t - 25 * k;
     let op = op_of(k);
     let m = k - 36 * op;
     let m1 = sixth(m);
-    let r = t - 25 * k;
     let r1 = fifth(r);
     Instr {
         op,

@@ -12,6 +12,12 @@ use Rattle.encoding.proofs.decode.Tie as tie
 place-requires : tie.Need-place-requires
 place-requires c κs = search needs
 
+mul-r : tie.Need-mul-r
+mul-r c = search needs
+
+sub-r : tie.Need-sub-r
+sub-r c = search needs
+
 op-of-requires : tie.Need-op-of-requires
 op-of-requires c κs = search needs
 
@@ -23,12 +29,6 @@ sub-m c = search needs
 
 sixth-requires : tie.Need-sixth-requires
 sixth-requires c κs = search needs
-
-mul-r : tie.Need-mul-r
-mul-r c = search needs
-
-sub-r : tie.Need-sub-r
-sub-r c = search needs
 
 fifth-requires : tie.Need-fifth-requires
 fifth-requires c κs = search needs
@@ -67,12 +67,12 @@ decode-spec =
     tie.close
     (tie.spec
     place-requires
+    mul-r
+    sub-r
     op-of-requires
     mul-m
     sub-m
     sixth-requires
-    mul-r
-    sub-r
     fifth-requires
     cast-cost-at
     cost-at-requires
