@@ -1,4 +1,4 @@
--- A tag taken apart by the code's divisions, soundness by the code's tests, and the cells one after another.
+-- A tag taken apart by the code's quotients, soundness by the code's tests, and the cells one after another.
 use mathlib.Core.Path.{_≡_, refl, sym, _∙_, ap}
 use mathlib.Core.Bool.{Bool, true, false, cond, _&&_, _||_, true≢false}
 use mathlib.Core.List.{List, [], _∷_}
@@ -6,32 +6,35 @@ use Prim.Native.Nat.{ℕ, zero, suc, _+_, _*_, _-_, _/_, _%_, _<_, _≤_}
 use native.Mathlib.Omega.{arith}
 use lib.IntN.{ℤ, pos, negsuc, natAbs}
 use lib.Signed.{ltZ, leZ, nonNeg}
-use lib.Dec.{T}
+use lib.Dec.{T, eqb}
 use lib.ListN.{length, getD, drop}
 use lib.Seq.{drop-cons}
 use mir.Syntax.{w32}
 use mir.Val.{Fits}
-use borrow.Author.Tests.{ltb-true, ltb-false, le-ltb}
+use borrow.Author.Tests.{ltb-true, ltb-false, le-ltb, eqb-true}
+use Rattle.definition.specs.declared.Cell.{Cell}
 use Rattle.definition.specs.declared.Address.the-variants.{At, NotAddress}
 use Rattle.definition.specs.Word.{eqZ, addressOf}
 use Rattle.definition.specs.Memory.{cellAt}
-use Rattle.definition.specs.Encoding.{legal, isAddress, registerFits, numberFits, soundInstruction, soundAt, sound}
+use Rattle.definition.specs.Encoding.{legal, isAddress, soundInstruction, soundAt, sound}
 use Rattle.definition.specs.Calls.{lowestDamaged}
 use Rattle.word.proofs.Laws.{address-by as word-address-by}
 
--- ---- a tag less 2: t / 25 is the table's place, t % 25 holds the registers
+-- ---- a tag less 2: k is the table's place
 
-pub op-part : (t : ℕ) → t / 25 / 36 ≡ t / 900
-op-part t = omega arith
+pub at-place : {A : Type 0} (g : ℕ → ℕ → ℕ → A) (t k : ℕ) → k ≡ t / 25 → g (k / 36) (k / 6 % 6) (k % 6) ≡ g (t / 900) (t / 150 % 6) (t / 25 % 6)
+at-place g t k e =
+    let o : k / 36 ≡ t / 900 = omega arith in
+    let m : k / 6 % 6 ≡ t / 150 % 6 = omega arith in
+    rw (o, m, e)
 
-pub mode₁-part : (t : ℕ) → t / 25 / 6 % 6 ≡ t / 150 % 6
-mode₁-part t = omega arith
+-- The modes, by the code's quotients.
+pub modes : (t k o m₁ : ℕ) → k ≡ t / 25 → o ≡ k / 36 → m₁ ≡ (k - 36 * o) / 6 → (m₁ ≡ t / 150 % 6) × (k - 36 * o - 6 * m₁ ≡ t / 25 % 6)
+modes t k o m₁ e f g = (omega arith, omega arith)
 
-pub reg₁-part : (t : ℕ) → t % 25 / 5 ≡ t / 5 % 5
-reg₁-part t = omega arith
-
-pub reg₂-part : (t : ℕ) → t % 25 % 5 ≡ t % 5
-reg₂-part t = omega arith
+-- The registers, likewise.
+pub registers : (t k r₁ : ℕ) → k ≡ t / 25 → r₁ ≡ (t - 25 * k) / 5 → (r₁ ≡ t / 5 % 5) × (t - 25 * k - 5 * r₁ ≡ t % 5)
+registers t k r₁ e f = (omega arith, omega arith)
 
 -- ---- soundness
 
@@ -43,12 +46,19 @@ address-by w = by (leZ (pos 0) w && leZ w (pos 4294967295)) ∙ ap isAddress (wo
     by true = refl
     by false = refl
 
-pub plain : (t f s : ℤ) → ltZ t (pos 2) ≡ true → ((eqZ t (pos 1) || (eqZ t (pos 0) && eqZ f (pos 0))) && eqZ s (pos 0)) ≡ soundAt t f s
+pub word-sound : (t f s : ℤ) → eqZ t (pos 1) ≡ true → eqZ s (pos 0) ≡ soundAt t f s
 unfolding soundAt
-plain (pos zero) f s h = refl
-plain (pos (suc zero)) f s h = refl
-plain (pos (suc (suc n))) f s h = let k : suc (suc n) < 2 = ltb-true (suc (suc n)) 2 h in absurd (omega arith)
-plain (negsuc n) f s h = refl
+word-sound (pos zero) f s h = absurd (true≢false (sym h))
+word-sound (pos (suc zero)) f s h = refl
+word-sound (pos (suc (suc n))) f s h = let e : suc (suc n) ≡ 1 = eqb-true (suc (suc n)) 1 h in absurd (omega arith)
+word-sound (negsuc n) f s h = absurd (true≢false (sym h))
+
+pub empty-sound : (t f s : ℤ) → ltZ t (pos 2) ≡ true → eqZ t (pos 1) ≡ false → (eqZ t (pos 0) && (eqZ f (pos 0) && eqZ s (pos 0))) ≡ soundAt t f s
+unfolding soundAt
+empty-sound (pos zero) f s h k = refl
+empty-sound (pos (suc zero)) f s h k = absurd (true≢false k)
+empty-sound (pos (suc (suc n))) f s h k = let l : suc (suc n) < 2 = ltb-true (suc (suc n)) 2 h in absurd (omega arith)
+empty-sound (negsuc n) f s h k = refl
 
 pub record Code (t : ℤ) : Type 0 where
   pub whole : T (nonNeg t) × Fits w32 (natAbs t)
@@ -130,7 +140,11 @@ fits-as-address false true c d h = absurd (true≢false h)
 fits-as-address false false true d h = absurd (true≢false h)
 fits-as-address false false false d h = refl
 
--- Soundness of an instruction, with its tag taken apart as the code does it.
-pub sound-by-parts : (t : ℕ) (f s : ℤ) → soundInstruction t f s ≡ (legal (t / 25 / 36) (t / 25 / 6 % 6) (t / 25 % 6) && ((registerFits (t / 25 / 6 % 6) (t % 25 / 5) && registerFits (t / 25 % 6) (t % 25 % 5)) && (numberFits (t / 25 / 6 % 6) f && numberFits (t / 25 % 6) s)))
-unfolding soundInstruction
-sound-by-parts t f s = rw (op-part t, mode₁-part t, reg₁-part t, reg₂-part t)
+-- One cell, as the cells' search takes it.
+pub one-cell : (v : Cell) → eqb (lowestDamaged 0 (v .tag ∷ v .first ∷ v .second ∷ [])) 1 ≡ sound v
+unfolding lowestDamaged
+one-cell v = by (sound v)
+  where
+    by : (b : Bool) → eqb (cond b 1 0) 1 ≡ b
+    by true = refl
+    by false = refl

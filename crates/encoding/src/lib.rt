@@ -4,11 +4,14 @@ pub mod costs;
 use arguments::Arg;
 use definition::Cell;
 ghost use mathlib.Core.Path.{_≡_};
+ghost use mathlib.Core.Bool.{true, _&&_};
 ghost use Prim.Native.Nat.{_+_, _*_, _/_, _%_, _<_};
+ghost use lib.IntN.{pos};
+ghost use lib.Signed.{ltZ};
 ghost use lib.ListN.{length};
 ghost use Rattle.definition.specs.Word.{addressOf};
 ghost use Rattle.definition.specs.Memory.{cellAt};
-ghost use Rattle.definition.specs.Encoding.{legal, cost, decode, registerFits, isAddress, numberFits, soundInstruction, sound};
+ghost use Rattle.definition.specs.Encoding.{legal, cost, decode, registerFits, isAddress, numberFits, soundInstruction, soundAt, sound};
 ghost use Rattle.definition.specs.Calls.{lowestDamaged};
 ghost use Rattle.encoding.specs.Table.{costTable};
 ghost use Rattle.encoding.specs.Instr.{instrOf};
@@ -43,24 +46,61 @@ pub fn is_legal(costs: &[u8; 1188], k: usize) -> bool
     0 < cost_at(costs, k)
 }
 
+// The table's place, op * 36 + m1 * 6 + m2, of a tag less 2.
+// Each step takes a tag apart: here and below a product and a shift, exact for numbers this small, replace a division, which takes about twice the instructions.
+fn place(t: u32) -> u32
+    requires { ⌜ t < 29700 ⌝ }
+    ensures { λ r. ⌜ r ≡ t / 25 ⌝ }
+{
+    (t * 5243) >> 17
+}
+
+// The operation of a place.
+fn op_of(k: u32) -> u32
+    requires { ⌜ k < 1188 ⌝ }
+    ensures { λ r. ⌜ r ≡ k / 36 ⌝ }
+{
+    (k * 1821) >> 16
+}
+
+// The first mode of m1 * 6 + m2.
+fn sixth(m: u32) -> u32
+    requires { ⌜ m < 36 ⌝ }
+    ensures { λ r. ⌜ r ≡ m / 6 ⌝ }
+{
+    (m * 43) >> 8
+}
+
+// The first register of r1 * 5 + r2.
+fn fifth(r: u32) -> u32
+    requires { ⌜ r < 25 ⌝ }
+    ensures { λ q. ⌜ q ≡ r / 5 ⌝ }
+{
+    (r * 52) >> 8
+}
+
 // What t, an instruction's tag less 2, says of the instruction.
 pub fn decode(costs: &[u8; 1188], t: u32, first: i64, second: i64) -> Instr
     requires { ⌜ (t < 29700) × (now costs ≡ costTable) ⌝ }
     ensures { λ r. ⌜ (instrOf r ≡ decode t first second) × (r .op < 33) ⌝ }
 {
-    let k = t / 25;
-    let r = t % 25;
+    let k = place(t);
+    let r = t - 25 * k;
+    let op = op_of(k);
+    let m = k - 36 * op;
+    let m1 = sixth(m);
+    let r1 = fifth(r);
     Instr {
-        op: k / 36,
+        op,
         cost: cost_at(costs, k as usize),
         x: Arg {
-            mode: k / 6 % 6,
-            reg: r / 5,
+            mode: m1,
+            reg: r1,
             number: first,
         },
         y: Arg {
-            mode: k % 6,
-            reg: r % 5,
+            mode: m - 6 * m1,
+            reg: r - 5 * r1,
             number: second,
         },
     }
@@ -90,24 +130,42 @@ pub fn number_fits(m: u32, w: i64) -> bool
     (m == 3) & is_address(w)
 }
 
-pub fn sound_instruction(costs: &[u8; 1188], t: u32, first: i64, second: i64) -> bool
-    requires { ⌜ (t < 29700) × (now costs ≡ costTable) ⌝ }
-    ensures { λ r. ⌜ r ≡ soundInstruction t first second ⌝ }
+// Do the registers, r = r1 * 5 + r2, and the numbers fit the modes? Both parts of r are only compared with 0, which takes no division.
+fn operands_fit(m1: u32, m2: u32, r: u32, first: i64, second: i64) -> bool
+    ensures { λ b. ⌜ b ≡ ((registerFits m1 (r / 5) && registerFits m2 (r % 5)) && (numberFits m1 first && numberFits m2 second)) ⌝ }
 {
-    let k = t / 25;
-    let r = t % 25;
-    let m1 = k / 6 % 6;
-    let m2 = k % 6;
-    if is_legal(costs, k as usize) {
-        if register_fits(m1, r / 5) {
-            if register_fits(m2, r % 5) {
-                if number_fits(m1, first) {
-                    return number_fits(m2, second);
-                }
+    if register_fits(m1, r / 5) {
+        if register_fits(m2, r % 5) {
+            if number_fits(m1, first) {
+                return number_fits(m2, second);
             }
         }
     }
     false
+}
+
+pub fn sound_instruction(costs: &[u8; 1188], t: u32, first: i64, second: i64) -> bool
+    requires { ⌜ (t < 29700) × (now costs ≡ costTable) ⌝ }
+    ensures { λ r. ⌜ r ≡ soundInstruction t first second ⌝ }
+{
+    let k = place(t);
+    let m = k - 36 * op_of(k);
+    let m1 = sixth(m);
+    if is_legal(costs, k as usize) {
+        return operands_fit(m1, m - 6 * m1, t - 25 * k, first, second);
+    }
+    false
+}
+
+// An empty cell or a word.
+fn sound_plain(t: i64, f: i64, s: i64) -> bool
+    requires { ⌜ ltZ t (pos 2) ≡ true ⌝ }
+    ensures { λ r. ⌜ r ≡ soundAt t f s ⌝ }
+{
+    if word::eq(t, 1) {
+        return word::eq(s, 0);
+    }
+    word::eq(t, 0) & (word::eq(f, 0) & word::eq(s, 0))
 }
 
 // Empty, a word or an instruction: "Anything else is damaged."
@@ -119,7 +177,7 @@ pub fn sound_cell(costs: &[u8; 1188], v: Cell) -> bool
     let f = v.first;
     let s = v.second;
     if t < 2 {
-        return (word::eq(t, 1) | (word::eq(t, 0) & word::eq(f, 0))) & word::eq(s, 0);
+        return sound_plain(t, f, s);
     }
     if t < 29702 {
         return sound_instruction(costs, (t as u32) - 2, f, s);
@@ -154,4 +212,26 @@ pub fn lowest_damaged(costs: &[u8; 1188], cells: &[i64]) -> usize
         }
     }
     n
+}
+
+// The same. It names the table, so that its callers need not: the table's code is there once.
+pub fn lowest_damaged_cell(cells: &[i64]) -> usize
+    ensures { λ r. ⌜ r ≡ lowestDamaged 0 (now (cells .entry)) ⌝ }
+{
+    let costs = &costs::COSTS;
+    lowest_damaged(costs, cells)
+}
+
+// One cell's soundness, with no table lent. An empty cell or a word, as registers mostly hold, does not wait for the table to be built.
+pub fn is_sound(v: Cell) -> bool
+    ensures { λ r. ⌜ r ≡ sound v ⌝ }
+{
+    let t = v.tag;
+    let f = v.first;
+    let s = v.second;
+    if t < 2 {
+        return sound_plain(t, f, s);
+    }
+    let cells = [t, f, s];
+    lowest_damaged_cell(&cells) == 1
 }

@@ -257,8 +257,8 @@ fn open(
     if made.refusal != 0 {
         return with_fault(s, Fault::Refusal);
     }
-    still::fresh::clear(due_cells);
-    still::fresh::clear(due_row);
+    calls::fresh::clear(due_cells);
+    calls::fresh::clear(due_row);
     recorded::clear::clear_bytes(queue);
     recorded::clear::clear_bytes(due_queue);
     recorded::clear::clear_bytes(output);

@@ -8,12 +8,12 @@ ghost use Rattle.definition.specs.Calls.{called, readCell, load};
 pub extern "C" fn z33_load(cells: &mut [i64], image: &[i64], start: u64) -> Done
     ensures { λ r. ⌜ called r (now (cells .exit)) ≡ load (now (cells .entry)) (now (image .entry)) start ⌝ }
 {
-    still::cells::load(cells, image, start)
+    calls::cells::load(cells, image, start)
 }
 
 #[no_mangle]
 pub extern "C" fn z33_read_cell(cells: &[i64], address: u64) -> CellRead
     ensures { λ r. ⌜ r ≡ readCell (now (cells .entry)) address ⌝ }
 {
-    still::cells::read_cell(cells, address)
+    calls::cells::read_cell(cells, address)
 }

@@ -7,5 +7,5 @@ ghost use Rattle.definition.specs.Calls.{called, fresh};
 pub extern "C" fn z33_fresh(cells: &mut [i64], row: &mut [i64]) -> Done
     ensures { λ r. ⌜ called r (now (cells .exit), now (row .exit)) ≡ fresh (now (cells .entry)) (now (row .entry)) ⌝ }
 {
-    still::fresh::fresh(cells, row)
+    calls::fresh::fresh(cells, row)
 }

@@ -8,5 +8,5 @@ ghost use Rattle.definition.specs.Calls.{called, setRegister};
 pub extern "C" fn z33_set_register(row: &mut [i64], r: u64, w: i64) -> Done
     ensures { λ d. ⌜ called d (now (row .exit)) ≡ setRegister (now (row .entry)) r w ⌝ }
 {
-    still::register::set_register(row, r, w)
+    calls::register::set_register(row, r, w)
 }

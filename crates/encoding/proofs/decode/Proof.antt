@@ -1,11 +1,37 @@
 -- `encoding::decode` meets its contract.
-use mir.Facts.{toZ-ofZ}
+use mathlib.Core.Path.{_≡_, _∙_}
+use Prim.Native.Nat.{_/_}
 use native.Mathlib.Omega.{arith}
+use mir.Facts.{toZ-ofZ}
 use borrow.Author.Needs.{needs}
-use Rattle.definition.specs.Encoding.{decode}
-use Rattle.encoding.proofs.Sound.{op-part, mode₁-part, reg₁-part, reg₂-part}
+use Rattle.definition.specs.Encoding.{decode, cost}
+use Rattle.encoding.proofs.Sound.{at-place, modes, registers}
 use Rattle.encoding.proofs.decode.Statement.{statement}
 use Rattle.encoding.proofs.decode.Tie as tie
+
+place-requires : tie.Need-place-requires
+place-requires c κs = search needs
+
+mul-r : tie.Need-mul-r
+mul-r c = search needs
+
+sub-r : tie.Need-sub-r
+sub-r c = search needs
+
+op-of-requires : tie.Need-op-of-requires
+op-of-requires c κs = search needs
+
+mul-m : tie.Need-mul-m
+mul-m c = search needs
+
+sub-m : tie.Need-sub-m
+sub-m c = search needs
+
+sixth-requires : tie.Need-sixth-requires
+sixth-requires c κs = search needs
+
+fifth-requires : tie.Need-fifth-requires
+fifth-requires c κs = search needs
 
 cast-cost-at : tie.Need-cast-cost-at
 cast-cost-at c = search needs
@@ -13,10 +39,45 @@ cast-cost-at c = search needs
 cost-at-requires : tie.Need-cost-at-requires
 cost-at-requires c κs = search needs
 
+mul-t11 : tie.Need-mul-t11
+mul-t11 c = search needs
+
+sub-t15 : tie.Need-sub-t15
+sub-t15 c = search needs
+
+mul-t16 : tie.Need-mul-t16
+mul-t16 c = search needs
+
+sub-t17 : tie.Need-sub-t17
+sub-t17 c = search needs
+
 returns : tie.Need-returns
 unfolding decode
-returns c = let a = c .before .args in
-    (rw (toZ-ofZ (c .before .fits .first), toZ-ofZ (c .before .fits .second), c .cost-at .ensures, op-part (a .t), mode₁-part (a .t), reg₁-part (a .t), reg₂-part (a .t)), (let h = c .before .pre .0 in omega arith))
+returns c = let s = c .before .before .before .before .before in
+    let p = c .before .before .before .before .place in
+    let o = c .before .before .before .op-of in
+    let t = s .args .t in
+    let op : o .result ≡ t / 900 = omega arith in
+    let m = modes t _ _ _ (p .ensures) (o .ensures) (c .before .before .sixth .ensures) in
+    let r = registers t _ _ (p .ensures) (c .before .fifth .ensures) in
+    (rw (toZ-ofZ (s .fits .first), toZ-ofZ (s .fits .second), c .cost-at .ensures ∙ at-place cost t _ (p .ensures), m .1, r .1, op, m .0, r .0), (let h = s .pre .0 in omega arith))
 
 pub decode-spec : {M : Type 1} → statement M
-decode-spec = tie.close (tie.spec cast-cost-at cost-at-requires returns)
+decode-spec =
+    tie.close
+    (tie.spec
+    place-requires
+    mul-r
+    sub-r
+    op-of-requires
+    mul-m
+    sub-m
+    sixth-requires
+    fifth-requires
+    cast-cost-at
+    cost-at-requires
+    mul-t11
+    sub-t15
+    mul-t16
+    sub-t17
+    returns)

@@ -1,35 +1,20 @@
 -- `encoding::sound_cell` meets its contract.
-use mathlib.Core.Path.{_≡_, _∙_}
-use mathlib.Core.Bool.{true}
-use lib.IntN.{pos}
-use lib.Signed.{ltZ}
+use mathlib.Core.Path.{_∙_}
 use borrow.Author.Needs.{needs}
 use Rattle.definition.specs.Encoding.{sound}
 use Rattle.word.proofs.Laws.{back}
-use Rattle.encoding.proofs.Sound.{plain, code, code-sound, far}
+use Rattle.encoding.proofs.Sound.{code, code-sound, far}
 use Rattle.encoding.proofs.sound_cell.Statement.{statement}
 use Rattle.encoding.proofs.sound_cell.Tie as tie
 
-eq-requires : tie.Need-eq-requires
-eq-requires c κs = search needs
-
-eq-requires-2 : tie.Need-eq-requires-2
-eq-requires-2 c κs = search needs
-
-eq-requires-3 : tie.Need-eq-requires-3
-eq-requires-3 c κs = search needs
-
-eq-requires-4 : tie.Need-eq-requires-4
-eq-requires-4 c κs = search needs
+sound-plain-requires : tie.Need-sound-plain-requires
+sound-plain-requires c κs = c .if1 .taken
 
 returns : tie.Need-returns
 unfolding sound
-returns c = let v = c .before .before .before .before .before .before .before .before .args .v in
-    let g = c .before .before .before .before .before .before .before .struct-told .given in
-    let b₀ = back (v .tag) (g .0 .1) in
-    let h : ltZ (v .tag) (pos 2) ≡ true = rw b₀ at (c .before .before .before .before .if1 .taken) in
-    let e = plain (v .tag) (v .first) (v .second) h in
-    cc (b₀, back (v .first) (g .1 .0 .1), back (v .second) (g .1 .1 .0 .1), e)
+returns c = let v = c .before .before .before .before .before .args .v in
+    let g = c .before .before .before .before .struct-told .given in
+    rw (back (v .tag) (g .0 .1), back (v .first) (g .1 .0 .1), back (v .second) (g .1 .1 .0 .1)) at (c .sound-plain .ensures)
 
 cast-sound-instruction : tie.Need-cast-sound-instruction
 cast-sound-instruction c = let v = c .before .before .before .before .before .args .v in
@@ -63,10 +48,7 @@ pub sound-cell-spec : {M : Type 1} → statement M
 sound-cell-spec =
     tie.close
     (tie.spec
-    eq-requires
-    eq-requires-2
-    eq-requires-3
-    eq-requires-4
+    sound-plain-requires
     returns
     cast-sound-instruction
     sub-sound-instruction

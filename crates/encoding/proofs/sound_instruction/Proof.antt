@@ -1,10 +1,28 @@
 -- `encoding::sound_instruction` meets its contract.
-use mathlib.Core.Path.{_∙_, sym}
+use mathlib.Core.Path.{_≡_, _∙_, sym}
+use Prim.Native.Nat.{_*_, _-_, _/_, _%_}
+use native.Mathlib.Omega.{arith}
 use mir.Facts.{toZ-ofZ}
 use borrow.Author.Needs.{needs}
-use Rattle.encoding.proofs.Sound.{sound-by-parts}
+use Rattle.definition.specs.Encoding.{soundInstruction, legal}
+use Rattle.encoding.proofs.Sound.{at-place, modes}
 use Rattle.encoding.proofs.sound_instruction.Statement.{statement}
 use Rattle.encoding.proofs.sound_instruction.Tie as tie
+
+place-requires : tie.Need-place-requires
+place-requires c κs = search needs
+
+op-of-requires : tie.Need-op-of-requires
+op-of-requires c κs = search needs
+
+mul-m : tie.Need-mul-m
+mul-m c = search needs
+
+sub-m : tie.Need-sub-m
+sub-m c = search needs
+
+sixth-requires : tie.Need-sixth-requires
+sixth-requires c κs = search needs
 
 cast-is-legal : tie.Need-cast-is-legal
 cast-is-legal c = search needs
@@ -12,63 +30,52 @@ cast-is-legal c = search needs
 is-legal-requires : tie.Need-is-legal-requires
 is-legal-requires c κs = search needs
 
-register-fits-requires : tie.Need-register-fits-requires
-register-fits-requires c κs = search needs
+mul-operands-fit : tie.Need-mul-operands-fit
+mul-operands-fit c = search needs
 
-register-fits-requires-2 : tie.Need-register-fits-requires-2
-register-fits-requires-2 c κs = search needs
+sub-operands-fit : tie.Need-sub-operands-fit
+sub-operands-fit c = search needs
 
-number-fits-requires : tie.Need-number-fits-requires
-number-fits-requires c κs = search needs
+mul-operands-fit-2 : tie.Need-mul-operands-fit-2
+mul-operands-fit-2 c = search needs
 
-number-fits-requires-2 : tie.Need-number-fits-requires-2
-number-fits-requires-2 c κs = search needs
+sub-operands-fit-2 : tie.Need-sub-operands-fit-2
+sub-operands-fit-2 c = search needs
+
+operands-fit-requires : tie.Need-operands-fit-requires
+operands-fit-requires c κs = search needs
 
 returns : tie.Need-returns
-returns c = let a = c .before .before .before .before .before .before .before .before .before .args in
-    let e₁ = sym (c .before .before .before .before .before .before .before .before .is-legal .ensures) ∙ c .before .before .before .before .before .before .before .if1 .taken in
-    let e₂ = sym (c .before .before .before .before .before .before .register-fits .ensures) ∙ c .before .before .before .before .before .if2 .taken in
-    let e₃ = sym (c .before .before .before .before .register-fits2 .ensures) ∙ c .before .before .before .if3 .taken in
-    let e₄ = sym (rw (toZ-ofZ (c .before .before .before .before .before .before .before .before .before .fits .first)) at (c .before .before .number-fits .ensures)) ∙ c .before .if4 .taken in
-    rw (sound-by-parts (a .t) (a .first) (a .second), e₁, e₂, e₃, e₄) (rw (toZ-ofZ (c .before .before .before .before .before .before .before .before .before .fits .second)) at (c .number-fits2 .ensures))
+unfolding soundInstruction
+returns c = let s = c .before .before .before .before .before .before in
+    let p = c .before .before .before .before .before .place in
+    let t = s .args .t in
+    let m = modes t _ _ _ (p .ensures) (c .before .before .before .before .op-of .ensures) (c .before .before .before .sixth .ensures) in
+    let reg₁ : (t - 25 * p .result) / 5 ≡ t / 5 % 5 = omega arith in
+    let reg₂ : (t - 25 * p .result) % 5 ≡ t % 5 = omega arith in
+    rw (← at-place legal t _ (p .ensures), sym (c .before .before .is-legal .ensures) ∙ c .before .if1 .taken)
+    (rw (toZ-ofZ (s .fits .first), toZ-ofZ (s .fits .second), m .1, m .0, reg₁, reg₂) at (c .operands-fit .ensures))
 
 returns-2 : tie.Need-returns-2
-returns-2 c = let a = c .before .before .before .before .before .before .before .before .args in
-    let e₁ = sym (c .before .before .before .before .before .before .before .is-legal .ensures) ∙ c .before .before .before .before .before .before .if1 .taken in
-    let e₂ = sym (c .before .before .before .before .before .register-fits .ensures) ∙ c .before .before .before .before .if2 .taken in
-    let e₃ = sym (c .before .before .before .register-fits2 .ensures) ∙ c .before .before .if3 .taken in
-    let e₄ = sym (rw (toZ-ofZ (c .before .before .before .before .before .before .before .before .fits .first)) at (c .before .number-fits .ensures)) ∙ c .if4 .left in
-    rw (sound-by-parts (a .t) (a .first) (a .second), e₁, e₂, e₃, e₄)
-
-returns-3 : tie.Need-returns-3
-returns-3 c = let a = c .before .before .before .before .before .before .args in
-    let e₁ = sym (c .before .before .before .before .before .is-legal .ensures) ∙ c .before .before .before .before .if1 .taken in
-    let e₂ = sym (c .before .before .before .register-fits .ensures) ∙ c .before .before .if2 .taken in
-    let e₃ = sym (c .before .register-fits2 .ensures) ∙ c .if3 .left in
-    rw (sound-by-parts (a .t) (a .first) (a .second), e₁, e₂, e₃)
-
-returns-4 : tie.Need-returns-4
-returns-4 c = let a = c .before .before .before .before .args in
-    let e₁ = sym (c .before .before .before .is-legal .ensures) ∙ c .before .before .if1 .taken in
-    let e₂ = sym (c .before .register-fits .ensures) ∙ c .if2 .left in
-    rw (sound-by-parts (a .t) (a .first) (a .second), e₁, e₂)
-
-returns-5 : tie.Need-returns-5
-returns-5 c = let a = c .before .before .args in
-    rw (sound-by-parts (a .t) (a .first) (a .second), sym (c .before .is-legal .ensures) ∙ c .if1 .left)
+unfolding soundInstruction
+returns-2 c = let p = c .before .before .before .before .place in
+    rw (← at-place legal (c .before .before .before .before .before .args .t) _ (p .ensures), sym (c .before .is-legal .ensures) ∙ c .if1 .left)
 
 pub sound-instruction-spec : {M : Type 1} → statement M
 sound-instruction-spec =
     tie.close
     (tie.spec
+    place-requires
+    op-of-requires
+    mul-m
+    sub-m
+    sixth-requires
     cast-is-legal
     is-legal-requires
-    register-fits-requires
-    register-fits-requires-2
-    number-fits-requires
-    number-fits-requires-2
+    mul-operands-fit
+    sub-operands-fit
+    mul-operands-fit-2
+    sub-operands-fit-2
+    operands-fit-requires
     returns
-    returns-2
-    returns-3
-    returns-4
-    returns-5)
+    returns-2)
