@@ -123,13 +123,7 @@ pub fn address_there(x: Found) -> Address
     }
 }
 
-// The operand's word as an address, where a jump goes.
-pub fn target(cells: &[i64], rc: Cell, mode: u32, number: i64) -> Address
-    ensures { λ r. ⌜ r ≡ asAddress (wordBy mode rc number (now (cells .entry))) ⌝ }
-{
-    address_there(extract_cell(cells, rc, mode, number))
-}
-
+// The operand's word as an address, where call goes: it has pushed before.
 pub fn target_over(cells: &[i64], at: u32, v: Cell, rc: Cell, mode: u32, number: i64) -> Address
     ensures { λ r. ⌜ r ≡ asAddress (wordBy mode rc number (overlay at v (now (cells .entry)))) ⌝ }
 {

@@ -1,5 +1,6 @@
-//! bench STEPS ROUNDS: the unchanged original, the plain interpreter and the proved library on the same loops, in one
+//! bench [STEPS [ROUNDS]]: the unchanged original, the plain interpreter and the proved library on the same loops, in one
 //! process and in turn; CPU time of the thread, best and median, and the library's ratio to the others.
+//! bench alone MACHINE LOOP STEPS: one of the three on one loop and nothing else, for whoever counts instructions.
 
 mod clock;
 mod programs;
@@ -41,12 +42,15 @@ fn best_and_median(times: &mut [u64], steps: u32) -> (f64, f64) {
     (a_step(times[0]), a_step(times[times.len() / 2]))
 }
 
+type Run = fn(&Program, u32) -> (u64, Machine);
+
+const MACHINES: [(&str, Run); 3] = [("original", original), ("plain", plain), ("library", library)];
+
 /// One line: nanoseconds a step of the three, and how many times faster the library is.
 fn compare(program: &Program, steps: u32, rounds: usize) {
-    let machines: [fn(&Program, u32) -> (u64, Machine); 3] = [original, plain, library];
     let mut times = [const { Vec::new() }; 3];
     for _ in 0..rounds {
-        let ends = machines.map(|run| run(program, steps));
+        let ends = MACHINES.map(|(_, run)| run(program, steps));
         assert!(ends.iter().all(|end| end.1 == ends[0].1), "{}: the final machines differ", program.name);
         for (all, end) in times.iter_mut().zip(ends) {
             all.push(end.0);
@@ -84,17 +88,22 @@ fn acceptance(program: &Program, budget: u32) {
     );
 }
 
-fn growth(program: &Program) {
-    for power in 3..=7 {
-        let steps = 10_u32.pow(power);
+fn growth(program: &Program, most: u32) {
+    for steps in (3..=8).map(|power| 10_u32.pow(power)).filter(|&steps| steps <= most) {
         let (spent, _) = library(program, steps);
         println!("{steps:>9} steps of {}: {:.2} ns a step", program.name, spent as f64 / f64::from(steps));
     }
 }
 
-fn main() {
-    let mut words = std::env::args().skip(1).map(|w| w.parse::<u32>().expect("STEPS ROUNDS"));
-    let (steps, rounds) = (words.next().unwrap_or(2_000_000), words.next().unwrap_or(5) as usize);
+fn alone(machine: &str, name: &str, steps: u32) {
+    let (_, run) = MACHINES.iter().find(|m| m.0 == machine).expect("original, plain or library");
+    let programs = programs::all();
+    let program =
+        programs.iter().find(|p| p.name.split(' ').next() == Some(name)).expect("a loop: a, a', b, c or d");
+    run(program, steps);
+}
+
+fn measure(steps: u32, rounds: usize) {
     println!("ns a step, best and median of {rounds} rounds of {steps} steps");
     println!("{:34} {:13}   {:13}   {:13}   library is faster than", "", "original", "plain", "library");
     println!("{:34} {:13}   {:13}   {:13}   original, plain", "", "", "", "");
@@ -104,5 +113,20 @@ fn main() {
         acceptance(kind, 0);
         acceptance(kind, 1);
     }
-    growth(&programs[0]);
+    growth(&programs[0], steps.saturating_mul(5));
+}
+
+fn number(word: &str) -> u32 {
+    word.parse().expect("a number")
+}
+
+fn main() {
+    let words: Vec<String> = std::env::args().skip(1).collect();
+    match words.iter().map(String::as_str).collect::<Vec<_>>()[..] {
+        ["alone", machine, name, steps] => alone(machine, name, number(steps)),
+        [] => measure(20_000_000, 5),
+        [steps] => measure(number(steps), 5),
+        [steps, rounds] => measure(number(steps), number(rounds) as usize),
+        _ => panic!("bench [STEPS [ROUNDS]] or bench alone MACHINE LOOP STEPS"),
+    }
 }
