@@ -5,7 +5,7 @@ use definition::Found;
 use definition::Word;
 ghost use mathlib.Core.Path.{_≡_};
 ghost use Rattle.definition.specs.Word.{addressOf};
-ghost use Rattle.definition.specs.Memory.{extractAddress, extractWord, asAddress};
+ghost use Rattle.definition.specs.Memory.{extractAddress, extractWord};
 ghost use Rattle.definition.specs.Arguments.{indexed, cellThere, wordThere};
 ghost use Rattle.memory.specs.Overlay.{overlay};
 ghost use Rattle.arguments.specs.By.{resolveBy, extractBy, wordBy};
@@ -114,18 +114,9 @@ pub fn operand_word(cells: &[i64], rc: Cell, mode: u32, number: i64) -> Word
     word_there(extract_cell(cells, rc, mode, number))
 }
 
-pub fn address_there(x: Found) -> Address
-    ensures { λ r. ⌜ r ≡ asAddress (wordThere x) ⌝ }
+// The same for call, which has pushed before it reads.
+pub fn word_over(cells: &[i64], at: u32, v: Cell, rc: Cell, mode: u32, number: i64) -> Word
+    ensures { λ r. ⌜ r ≡ wordBy mode rc number (overlay at v (now (cells .entry))) ⌝ }
 {
-    match x {
-        Found::Here(v) => memory::extract_address(v),
-        Found::Outside => Address::NotAddress,
-    }
-}
-
-// The operand's word as an address, where call goes: it has pushed before.
-pub fn target_over(cells: &[i64], at: u32, v: Cell, rc: Cell, mode: u32, number: i64) -> Address
-    ensures { λ r. ⌜ r ≡ asAddress (wordBy mode rc number (overlay at v (now (cells .entry)))) ⌝ }
-{
-    address_there(extract_over(cells, at, v, rc, mode, number))
+    word_there(extract_over(cells, at, v, rc, mode, number))
 }

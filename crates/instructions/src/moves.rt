@@ -49,12 +49,14 @@ pub fn rtn(cells: &[i64], s: Registers) -> Put
         Found::Here(v) => {
             let mut t = s;
             t.sp = s.sp + 1;
-            match memory::extract_address(v) {
-                Address::At(n) => {
-                    t.pc = n;
+            match memory::extract_word(v) {
+                Word::Is(w) => if (0 <= w) & (w <= 4294967295) {
+                    t.pc = w as u32;
                     registers::accept(t)
-                }
-                Address::NotAddress => registers::refuse(t, Error::CellError),
+                } else {
+                    registers::refuse(t, Error::CellError)
+                },
+                Word::NotWord => registers::refuse(t, Error::CellError),
             }
         }
         Found::Outside => registers::refuse(s, Error::InvalidMemoryAccess),

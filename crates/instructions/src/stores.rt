@@ -107,7 +107,7 @@ pub fn call(cells: &[i64], s: Registers, x: Arg) -> Made
     if ok {
         let v = p.v;
         let mut t = p.s;
-        match arguments::target_over(
+        match arguments::word_over(
             cells,
             p.at,
             v,
@@ -115,11 +115,13 @@ pub fn call(cells: &[i64], s: Registers, x: Arg) -> Made
             x.mode,
             x.number,
         ) {
-            Address::At(n) => {
-                t.pc = n;
+            Word::Is(w) => if (0 <= w) & (w <= 4294967295) {
+                t.pc = w as u32;
                 with_cell(registers::accept(t), p.at, v)
-            }
-            Address::NotAddress => with_cell(registers::refuse(t, Error::Extract), p.at, v),
+            } else {
+                with_cell(registers::refuse(t, Error::Extract), p.at, v)
+            },
+            Word::NotWord => with_cell(registers::refuse(t, Error::Extract), p.at, v),
         }
     } else {
         d
