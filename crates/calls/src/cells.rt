@@ -10,8 +10,7 @@ ghost use Rattle.definition.specs.Calls.{called, readCell, load, loaded};
 pub fn read_cell(cells: &[i64], address: u64) -> CellRead
     ensures { λ r. ⌜ r ≡ readCell (now (cells .entry)) address ⌝ }
 {
-    let costs = &encoding::costs::COSTS;
-    let d = refusals::read_check(costs, cells, address);
+    let d = refusals::read_check(cells, address);
     if d.refusal == 0 {
         let v = encoding::cell_at(cells, address as usize);
         return CellRead {
@@ -56,8 +55,7 @@ pub fn place_image(cells: &mut [i64], image: &[i64], start: usize)
 pub fn load(cells: &mut [i64], image: &[i64], start: u64) -> Done
     ensures { λ r. ⌜ called r (now (cells .exit)) ≡ load (now (cells .entry)) (now (image .entry)) start ⌝ }
 {
-    let costs = &encoding::costs::COSTS;
-    let d = refusals::load_check(costs, cells, image, start);
+    let d = refusals::load_check(cells, image, start);
     if d.refusal == 0 {
         place_image(cells, image, start as usize);
         return refusals::accept();

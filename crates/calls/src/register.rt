@@ -25,8 +25,7 @@ pub fn put_register(row: &mut [i64], r: u64, w: i64)
 pub fn set_register(row: &mut [i64], r: u64, w: i64) -> Done
     ensures { λ d. ⌜ called d (now (row .exit)) ≡ setRegister (now (row .entry)) r w ⌝ }
 {
-    let costs = &encoding::costs::COSTS;
-    let d = refusals::set_register_check(costs, row, r, w);
+    let d = refusals::set_register_check(row, r, w);
     if d.refusal == 0 {
         put_register(row, r, w);
         return refusals::accept();

@@ -20,8 +20,7 @@ pub fn first_free(row: &[i64], q: usize) -> usize
 pub fn deliver(queue: &mut [u8], row: &mut [i64], bytes: &[u8]) -> Done
     ensures { λ r. ⌜ called r (now (queue .exit), now (row .exit)) ≡ deliver (now (queue .entry)) (now (row .entry)) (now (bytes .entry)) ⌝ }
 {
-    let costs = &encoding::costs::COSTS;
-    let d = refusals::deliver_check(costs, queue, row, bytes);
+    let d = refusals::deliver_check(queue, row, bytes);
     if d.refusal == 0 {
         let at = first_free(row, queue.len());
         console::put_bytes(queue, at, bytes);
@@ -34,8 +33,7 @@ pub fn deliver(queue: &mut [u8], row: &mut [i64], bytes: &[u8]) -> Done
 pub fn drain(output: &[u8], row: &mut [i64], buffer: &mut [u8]) -> Drained
     ensures { λ r. ⌜ called r (now (row .exit), now (buffer .exit)) ≡ drain (now (output .entry)) (now (row .entry)) (now (buffer .entry)) ⌝ }
 {
-    let costs = &encoding::costs::COSTS;
-    let d = refusals::drain_check(costs, output, row, buffer);
+    let d = refusals::drain_check(output, row, buffer);
     if d.refusal == 0 {
         let n = row::number_at(row, 15);
         console::drain_to(buffer, output, n as usize);

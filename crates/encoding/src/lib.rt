@@ -197,8 +197,8 @@ pub fn cell_at(cells: &[i64], n: usize) -> Cell
     }
 }
 
-// The lowest address of a damaged cell, or else the address past the last cell.
-pub fn lowest_damaged(costs: &[u8; 1188], cells: &[i64]) -> usize
+// `lowest_damaged` by a table that is lent.
+fn lowest_damaged_by(costs: &[u8; 1188], cells: &[i64]) -> usize
     requires { ⌜ now costs ≡ costTable ⌝ }
     ensures { λ r. ⌜ r ≡ lowestDamaged 0 (now (cells .entry)) ⌝ }
 {
@@ -214,12 +214,12 @@ pub fn lowest_damaged(costs: &[u8; 1188], cells: &[i64]) -> usize
     n
 }
 
-// The same. It names the table, so that its callers need not: the table's code is there once.
-pub fn lowest_damaged_cell(cells: &[i64]) -> usize
+// The lowest address of a damaged cell, or else the address past the last cell. It names the table, so that its callers need not: the table's code is there once.
+pub fn lowest_damaged(cells: &[i64]) -> usize
     ensures { λ r. ⌜ r ≡ lowestDamaged 0 (now (cells .entry)) ⌝ }
 {
     let costs = &costs::COSTS;
-    lowest_damaged(costs, cells)
+    lowest_damaged_by(costs, cells)
 }
 
 // One cell's soundness, with no table lent. An empty cell or a word, as registers mostly hold, does not wait for the table to be built.
@@ -233,5 +233,5 @@ pub fn is_sound(v: Cell) -> bool
         return sound_plain(t, f, s);
     }
     let cells = [t, f, s];
-    lowest_damaged_cell(&cells) == 1
+    lowest_damaged(&cells) == 1
 }

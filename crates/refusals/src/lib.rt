@@ -10,7 +10,6 @@ ghost use Rattle.definition.specs.Word.{addressOf};
 ghost use Rattle.definition.specs.Memory.{cell, cellAt, cellCount};
 ghost use Rattle.definition.specs.Encoding.{sound, isAddress};
 ghost use Rattle.definition.specs.Calls.{verdict, accepted, lent, freshCheck, runCheck, deliverCheck, drainCheck, readCheck, loadCheck, setRegisterCheck, raiseCheck, isSettable, isBelow, isMark, cellsTest, queueTest, outputTest, rowTests, damageTest, lowestDamaged};
-ghost use Rattle.encoding.specs.Table.{costTable};
 ghost use Rattle.refusals.specs.Refusals.{refused};
 
 pub fn accept() -> Done
@@ -89,11 +88,11 @@ pub fn address_at(row: &[i64], i: usize) -> bool
     encoding::is_address(z)
 }
 
-pub fn sound_at(costs: &[u8; 1188], row: &[i64], i: usize) -> bool
-    requires { ⌜ (i + 2 < length (now row)) × (now costs ≡ costTable) ⌝ }
+pub fn sound_at(row: &[i64], i: usize) -> bool
+    requires { ⌜ i + 2 < length (now row) ⌝ }
     ensures { λ r. ⌜ r ≡ sound (cell (getD (now (row .entry)) i (pos 0)) (getD (now (row .entry)) (i + 1) (pos 0)) (getD (now (row .entry)) (i + 2) (pos 0))) ⌝ }
 {
-    encoding::sound_cell(costs, row::cell_at(row, i))
+    encoding::is_sound(row::cell_at(row, i))
 }
 
 // "4. [...] its number at this place (from 1, the lowest such) is out of range": places 11 to 16.
@@ -110,8 +109,8 @@ pub fn console_numbers(row: &[i64], q: usize, o: usize) -> Done
 }
 
 // "a damaged a or b counts at place 1 or 4": the whole row, if it is 16 long.
-pub fn row_numbers(costs: &[u8; 1188], row: &[i64], q: usize, o: usize) -> Done
-    requires { ⌜ (length (now row) ≡ 16) × ((q ≤ 4096) × ((o ≤ 65536) × (now costs ≡ costTable))) ⌝ }
+pub fn row_numbers(row: &[i64], q: usize, o: usize) -> Done
+    requires { ⌜ (length (now row) ≡ 16) × ((q ≤ 4096) × (o ≤ 65536)) ⌝ }
     ensures { λ r. ⌜ r ≡ verdict (drop 1 (rowTests q o (now (row .entry)))) ⌝ }
 {
     let d = check(
@@ -122,17 +121,17 @@ pub fn row_numbers(costs: &[u8; 1188], row: &[i64], q: usize, o: usize) -> Done
     );
     let d = check(address_at(row, 7), 4, 8, d);
     let d = check(address_at(row, 6), 4, 7, d);
-    let d = check(sound_at(costs, row, 3), 4, 4, d);
-    check(sound_at(costs, row, 0), 4, 1, d)
+    let d = check(sound_at(row, 3), 4, 4, d);
+    check(sound_at(row, 0), 4, 1, d)
 }
 
 // "4. The row is not 16 long, or its number at this place [...] is out of range"
-pub fn row_check(costs: &[u8; 1188], row: &[i64], q: usize, o: usize) -> Done
-    requires { ⌜ (q ≤ 4096) × ((o ≤ 65536) × (now costs ≡ costTable)) ⌝ }
+pub fn row_check(row: &[i64], q: usize, o: usize) -> Done
+    requires { ⌜ (q ≤ 4096) × (o ≤ 65536) ⌝ }
     ensures { λ r. ⌜ r ≡ verdict (rowTests q o (now (row .entry))) ⌝ }
 {
     if row.len() == 16 {
-        row_numbers(costs, row, q, o)
+        row_numbers(row, q, o)
     } else {
         Done {
             refusal: 4,
@@ -142,11 +141,10 @@ pub fn row_check(costs: &[u8; 1188], row: &[i64], q: usize, o: usize) -> Done
 }
 
 // "5. The cell at this lowest address is damaged"
-pub fn damage(costs: &[u8; 1188], cells: &[i64], next: Done) -> Done
-    requires { ⌜ now costs ≡ costTable ⌝ }
+pub fn damage(cells: &[i64], next: Done) -> Done
     ensures { λ r. ⌜ r ≡ cond (damageTest (now (cells .entry)) .passed) next (refused 5 (lowestDamaged 0 (now (cells .entry)))) ⌝ }
 {
-    let n = encoding::lowest_damaged(costs, cells);
+    let n = encoding::lowest_damaged(cells);
     check(n == cells.len() / 3, 5, n as u64, next)
 }
 
@@ -158,22 +156,15 @@ pub fn fresh_check(cells: &[i64], row: &[i64]) -> Done
     check(whole, 1, 0, check(row.len() == 16, 4, 0, accept()))
 }
 
-pub fn run_check(
-    costs: &[u8; 1188],
-    cells: &[i64],
-    queue: &[u8],
-    output: &[u8],
-    row: &[i64],
-) -> Done
-    requires { ⌜ now costs ≡ costTable ⌝ }
+pub fn run_check(cells: &[i64], queue: &[u8], output: &[u8], row: &[i64]) -> Done
     ensures { λ r. ⌜ r ≡ runCheck (lent (now (cells .entry)) (now (queue .entry)) (now (output .entry)) (now (row .entry))) ⌝ }
 {
     if cells_fit(cells) {
         if queue_fits(queue) {
             if output_fits(output) {
-                let d = row_check(costs, row, queue.len(), output.len());
+                let d = row_check(row, queue.len(), output.len());
                 if d.refusal == 0 {
-                    damage(costs, cells, accept())
+                    damage(cells, accept())
                 } else {
                     d
                 }
@@ -198,12 +189,11 @@ pub fn run_check(
 }
 
 // "6. Delivered bytes exceed the queue's free places."
-pub fn deliver_check(costs: &[u8; 1188], queue: &[u8], row: &[i64], bytes: &[u8]) -> Done
-    requires { ⌜ now costs ≡ costTable ⌝ }
+pub fn deliver_check(queue: &[u8], row: &[i64], bytes: &[u8]) -> Done
     ensures { λ r. ⌜ r ≡ deliverCheck (now (queue .entry)) (now (row .entry)) (now (bytes .entry)) ⌝ }
 {
     if queue_fits(queue) {
-        let d = row_check(costs, row, queue.len(), 65536);
+        let d = row_check(row, queue.len(), 65536);
         if d.refusal == 0 {
             let room = queue.len() - row::number_at(row, 14) as usize;
             check(bytes.len() <= room, 6, 0, accept())
@@ -219,12 +209,11 @@ pub fn deliver_check(costs: &[u8; 1188], queue: &[u8], row: &[i64], bytes: &[u8]
 }
 
 // "7. The drain buffer is shorter than the output count."
-pub fn drain_check(costs: &[u8; 1188], output: &[u8], row: &[i64], buffer: &[u8]) -> Done
-    requires { ⌜ now costs ≡ costTable ⌝ }
+pub fn drain_check(output: &[u8], row: &[i64], buffer: &[u8]) -> Done
     ensures { λ r. ⌜ r ≡ drainCheck (now (output .entry)) (now (row .entry)) (now (buffer .entry)) ⌝ }
 {
     if output_fits(output) {
-        let d = row_check(costs, row, 4096, output.len());
+        let d = row_check(row, 4096, output.len());
         if d.refusal == 0 {
             let n = row::number_at(row, 15) as usize;
             check(n <= buffer.len(), 7, 0, accept())
@@ -240,56 +229,47 @@ pub fn drain_check(costs: &[u8; 1188], output: &[u8], row: &[i64], buffer: &[u8]
 }
 
 // "a cell read [checks] only its own": a cell outside has none.
-pub fn own_sound(costs: &[u8; 1188], cells: &[i64], n: u64) -> bool
-    requires { ⌜ now costs ≡ costTable ⌝ }
+pub fn own_sound(cells: &[i64], n: u64) -> bool
     ensures { λ r. ⌜ r ≡ (sound (cellAt (now (cells .entry)) n) || leb (cellCount (now (cells .entry))) n) ⌝ }
 {
     if (n as usize) < cells.len() / 3 {
-        encoding::sound_cell(costs, encoding::cell_at(cells, n as usize))
+        encoding::is_sound(encoding::cell_at(cells, n as usize))
     } else {
         true
     }
 }
 
 // "8. The cell address or image start is outside the cells."
-pub fn read_check(costs: &[u8; 1188], cells: &[i64], n: u64) -> Done
-    requires { ⌜ now costs ≡ costTable ⌝ }
+pub fn read_check(cells: &[i64], n: u64) -> Done
     ensures { λ r. ⌜ r ≡ readCheck (now (cells .entry)) n ⌝ }
 {
     let whole = cells_fit(cells);
-    let own = own_sound(costs, cells, n);
+    let own = own_sound(cells, n);
     let inside = (n as usize) < cells.len() / 3;
     let next = check(own, 5, n, check(inside, 8, 0, accept()));
     check(whole, 1, 0, next)
 }
 
 // A whole number of cells, at most this many, and none damaged.
-pub fn image_fits(costs: &[u8; 1188], image: &[i64], room: usize) -> bool
-    requires { ⌜ now costs ≡ costTable ⌝ }
+pub fn image_fits(image: &[i64], room: usize) -> bool
     ensures { λ r. ⌜ r ≡ (eqb (length (now (image .entry)) % 3) 0 && (leb (cellCount (now (image .entry))) room && eqb (lowestDamaged 0 (now (image .entry))) (cellCount (now (image .entry))))) ⌝ }
 {
     let n = image.len() / 3;
     if (image.len() % 3 == 0) & (n <= room) {
-        encoding::lowest_damaged(costs, image) == n
+        encoding::lowest_damaged(image) == n
     } else {
         false
     }
 }
 
 // "9. The image is no whole number of cells, runs past the end, or holds a damaged cell."
-pub fn load_check(costs: &[u8; 1188], cells: &[i64], image: &[i64], start: u64) -> Done
-    requires { ⌜ now costs ≡ costTable ⌝ }
+pub fn load_check(cells: &[i64], image: &[i64], start: u64) -> Done
     ensures { λ r. ⌜ r ≡ loadCheck (now (cells .entry)) (now (image .entry)) start ⌝ }
 {
     let count = cells.len() / 3;
     if cells_fit(cells) {
         if (start as usize) < count {
-            check(
-                image_fits(costs, image, count - start as usize),
-                9,
-                0,
-                accept(),
-            )
+            check(image_fits(image, count - start as usize), 9, 0, accept())
         } else {
             Done {
                 refusal: 8,
@@ -311,11 +291,10 @@ pub fn register_fits(r: u64, w: i64) -> bool
     (r < 2) | ((r < 4) & encoding::is_address(w))
 }
 
-pub fn set_register_check(costs: &[u8; 1188], row: &[i64], r: u64, w: i64) -> Done
-    requires { ⌜ now costs ≡ costTable ⌝ }
+pub fn set_register_check(row: &[i64], r: u64, w: i64) -> Done
     ensures { λ d. ⌜ d ≡ setRegisterCheck (now (row .entry)) r w ⌝ }
 {
-    let d = row_check(costs, row, 4096, 65536);
+    let d = row_check(row, 4096, 65536);
     if d.refusal == 0 {
         check(register_fits(r, w), 10, 0, accept())
     } else {
@@ -324,14 +303,13 @@ pub fn set_register_check(costs: &[u8; 1188], row: &[i64], r: u64, w: i64) -> Do
 }
 
 // "11. The raised code is not 0 to 5."
-pub fn raise_check(costs: &[u8; 1188], cells: &[i64], row: &[i64], code: u64) -> Done
-    requires { ⌜ now costs ≡ costTable ⌝ }
+pub fn raise_check(cells: &[i64], row: &[i64], code: u64) -> Done
     ensures { λ r. ⌜ r ≡ raiseCheck (now (cells .entry)) (now (row .entry)) code ⌝ }
 {
     if cells_fit(cells) {
-        let d = row_check(costs, row, 4096, 65536);
+        let d = row_check(row, 4096, 65536);
         if d.refusal == 0 {
-            damage(costs, cells, check(code <= 5, 11, 0, accept()))
+            damage(cells, check(code <= 5, 11, 0, accept()))
         } else {
             d
         }

@@ -40,8 +40,7 @@ pub fn raising(m: State, code: u32) -> Arrival
 pub extern "C" fn z33_raise(cells: &mut [i64], row: &mut [i64], code: u64) -> Raised
     ensures { λ r. ⌜ called r (now (cells .exit), now (row .exit)) ≡ raise (now (cells .entry)) (now (row .entry)) code ⌝ }
 {
-    let costs = &encoding::costs::COSTS;
-    let d = refusals::raise_check(costs, cells, row, code);
+    let d = refusals::raise_check(cells, row, code);
     if d.refusal == 0 {
         let m = super::run::state(row);
         let a = raising(m, code as u32);

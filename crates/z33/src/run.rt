@@ -33,8 +33,7 @@ pub extern "C" fn z33_run(
 ) -> Ran
     ensures { λ r. ⌜ called r (lent (now (cells .exit)) (now (queue .exit)) (now (output .exit)) (now (row .exit))) ≡ runCall budget (lent (now (cells .entry)) (now (queue .entry)) (now (output .entry)) (now (row .entry))) ⌝ }
 {
-    let costs = &encoding::costs::COSTS;
-    let d = refusals::run_check(costs, cells, queue, output, row);
+    let d = refusals::run_check(cells, queue, output, row);
     if d.refusal == 0 {
         let m = state(row);
         let e = computer::run(cells, queue, output, m, budget);

@@ -18,16 +18,16 @@ returns c = let v = c .before .before .before .before .before .args .v in
     let g = c .before .before .before .before .struct-told .given in
     rw (back (v .tag) (g .0 .1), back (v .first) (g .1 .0 .1), back (v .second) (g .1 .1 .0 .1)) at (c .sound-plain .ensures)
 
-slice-aggregate-lowest-damaged-cell : tie.Need-slice-aggregate-lowest-damaged-cell
-slice-aggregate-lowest-damaged-cell c = search needs
+slice-aggregate-lowest-damaged : tie.Need-slice-aggregate-lowest-damaged
+slice-aggregate-lowest-damaged c = search needs
 
-lowest-damaged-cell-requires : tie.Need-lowest-damaged-cell-requires
-lowest-damaged-cell-requires c κs = search needs
+lowest-damaged-requires : tie.Need-lowest-damaged-requires
+lowest-damaged-requires c κs = search needs
 
 returns-2 : tie.Need-returns-2
 returns-2 c = let v = c .before .before .before .before .before .before .args .v in
     let g = c .before .before .before .before .before .struct-told .given in
-    let e = rw (back (v .tag) (g .0 .1), back (v .first) (g .1 .0 .1), back (v .second) (g .1 .1 .0 .1)) at (c .lowest-damaged-cell .ensures) in
+    let e = rw (back (v .tag) (g .0 .1), back (v .first) (g .1 .0 .1), back (v .second) (g .1 .1 .0 .1)) at (c .lowest-damaged .ensures) in
     ap (λ (n : ℕ). eqb n 1) e ∙ one-cell v
 
 pub is-sound-spec : {M : Type 1} → statement M
@@ -36,6 +36,6 @@ is-sound-spec =
     (tie.spec
     sound-plain-requires
     returns
-    slice-aggregate-lowest-damaged-cell
-    lowest-damaged-cell-requires
+    slice-aggregate-lowest-damaged
+    lowest-damaged-requires
     returns-2)

@@ -12,7 +12,7 @@ queue-fits-requires : tie.Need-queue-fits-requires
 queue-fits-requires c κs = search needs
 
 row-check-requires : tie.Need-row-check-requires
-row-check-requires c κs = (queue-lengths (c .before .before .before .before .args .queue .now) (sym (c .before .queue-fits .ensures) ∙ c .if1 .taken) .1, (omega arith, c .before .before .before .before .pre))
+row-check-requires c κs = (queue-lengths (c .before .before .before .before .args .queue .now) (sym (c .before .queue-fits .ensures) ∙ c .if1 .taken) .1, omega arith)
 
 number-at-requires : tie.Need-number-at-requires
 number-at-requires c κs = let a = c .before .before .before .before .before .before .before .args in

@@ -12,7 +12,7 @@ output-fits-requires : tie.Need-output-fits-requires
 output-fits-requires c κs = search needs
 
 row-check-requires : tie.Need-row-check-requires
-row-check-requires c κs = (omega arith, (output-length (c .before .before .before .before .args .output .now) (sym (c .before .output-fits .ensures) ∙ c .if1 .taken), c .before .before .before .before .pre))
+row-check-requires c κs = (omega arith, output-length (c .before .before .before .before .args .output .now) (sym (c .before .output-fits .ensures) ∙ c .if1 .taken))
 
 number-at-requires : tie.Need-number-at-requires
 number-at-requires c κs = let a = c .before .before .before .before .before .before .before .args in

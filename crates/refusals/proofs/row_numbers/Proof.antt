@@ -33,7 +33,7 @@ check-requires-4 : tie.Need-check-requires-4
 check-requires-4 c κs = search needs
 
 sound-at-requires-2 : tie.Need-sound-at-requires-2
-sound-at-requires-2 c κs = (omega (arith, c .before .before .before .before .before .before .before .before .before .pre .0), c .before .before .before .before .before .before .before .before .before .pre .1 .1 .1)
+sound-at-requires-2 c κs = omega (arith, c .before .before .before .before .before .before .before .before .before .pre .0)
 
 check-requires-5 : tie.Need-check-requires-5
 check-requires-5 c κs = search needs

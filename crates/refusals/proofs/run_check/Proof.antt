@@ -19,7 +19,7 @@ output-fits-requires c κs = search needs
 
 row-check-requires : tie.Need-row-check-requires
 row-check-requires c κs = let a = c .before .before .before .before .before .before .before .before .args in
-    (queue-lengths (a .queue .now) (sym (c .before .before .before .queue-fits .ensures) ∙ c .before .before .if2 .taken) .1, (output-length (a .output .now) (sym (c .before .output-fits .ensures) ∙ c .if3 .taken), c .before .before .before .before .before .before .before .before .pre))
+    (queue-lengths (a .queue .now) (sym (c .before .before .before .queue-fits .ensures) ∙ c .before .before .if2 .taken) .1, output-length (a .output .now) (sym (c .before .output-fits .ensures) ∙ c .if3 .taken))
 
 accept-requires : tie.Need-accept-requires
 accept-requires c κs = search needs

@@ -1,19 +1,16 @@
 -- `calls::cells::load` meets its contract.
-use mathlib.Core.Path.{refl}
 use borrow.Author.Needs.{needs}
 use Rattle.definition.specs.Calls.{load}
-use Rattle.encoding.specs.Table.{costTable}
 use Rattle.refusals.proofs.Verdict.{passed-by, refused-by}
 use Rattle.refusals.proofs.Passed.{load-passed}
 use Rattle.calls.proofs.cells.load.Statement.{statement}
 use Rattle.calls.proofs.cells.load.Tie as tie
 
 load-check-requires : tie.Need-load-check-requires
-unfolding costTable
-load-check-requires c κs = refl
+load-check-requires c κs = search needs
 
 place-image-requires : tie.Need-place-image-requires
-place-image-requires c κs = let a = c .before .before .before .before .before .before .args in
+place-image-requires c κs = let a = c .before .before .before .before .before .args in
     load-passed (a .cells .now) (a .image .now) (a .start) (passed-by (c .before .before .before .load-check .ensures) (c .before .if1 .taken))
 
 accept-requires : tie.Need-accept-requires

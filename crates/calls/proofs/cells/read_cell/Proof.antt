@@ -1,20 +1,18 @@
 -- `calls::cells::read_cell` meets its contract.
-use mathlib.Core.Path.{refl}
 use native.Mathlib.Omega.{arith}
+use borrow.Author.Needs.{needs}
 use Rattle.definition.specs.Calls.{readCell}
 use Rattle.word.proofs.Laws.{back}
-use Rattle.encoding.specs.Table.{costTable}
 use Rattle.refusals.proofs.Verdict.{passed-by, refused-by}
 use Rattle.refusals.proofs.Passed.{read-passed}
 use Rattle.calls.proofs.cells.read_cell.Statement.{statement}
 use Rattle.calls.proofs.cells.read_cell.Tie as tie
 
 read-check-requires : tie.Need-read-check-requires
-unfolding costTable
-read-check-requires c κs = refl
+read-check-requires c κs = search needs
 
 cell-at-requires : tie.Need-cell-at-requires
-cell-at-requires c κs = let a = c .before .before .before .before .args in
+cell-at-requires c κs = let a = c .before .before .before .args in
     omega (arith, read-passed (a .cells .now) (a .address) (passed-by (c .before .before .read-check .ensures) (c .if1 .taken)))
 
 returns : tie.Need-returns

@@ -1,10 +1,8 @@
 -- `calls::serial::deliver` meets its contract.
-use mathlib.Core.Path.{refl}
 use native.Mathlib.Omega.{arith}
 use borrow.Author.Needs.{needs}
 use Rattle.definition.specs.Io.{firstFree}
 use Rattle.definition.specs.Calls.{deliver}
-use Rattle.encoding.specs.Table.{costTable}
 use Rattle.console.proofs.Queue.{around-below}
 use Rattle.refusals.proofs.Verdict.{passed-by, refused-by}
 use Rattle.refusals.proofs.Passed.{deliver-passed}
@@ -12,21 +10,20 @@ use Rattle.calls.proofs.serial.deliver.Statement.{statement}
 use Rattle.calls.proofs.serial.deliver.Tie as tie
 
 deliver-check-requires : tie.Need-deliver-check-requires
-unfolding costTable
-deliver-check-requires c κs = refl
+deliver-check-requires c κs = search needs
 
 first-free-requires : tie.Need-first-free-requires
-first-free-requires c κs = let a = c .before .before .before .before .before .before .before .before .before .args in
+first-free-requires c κs = let a = c .before .before .before .before .before .before .before .before .args in
     let p = deliver-passed (a .queue .now) (a .row .now) (a .bytes .now) (passed-by (c .before .before .before .deliver-check .ensures) (c .before .if1 .taken)) in
     (p .queue-most, p .row-fits)
 
 put-bytes-requires : tie.Need-put-bytes-requires
-put-bytes-requires c κs = let a = c .before .before .before .before .before .before .before .before .before .before .before .args in
+put-bytes-requires c κs = let a = c .before .before .before .before .before .before .before .before .before .before .args in
     let p = deliver-passed (a .queue .now) (a .row .now) (a .bytes .now) (passed-by (c .before .before .before .before .before .deliver-check .ensures) (c .before .before .before .if1 .taken)) in
     rw (c .before .first-free .ensures) (around-below _ _ (omega (arith, p .row-fits .start .1, p .row-fits .count .1)))
 
 put-delivered-requires : tie.Need-put-delivered-requires
-put-delivered-requires c κs = let a = c .before .before .before .before .before .before .before .before .before .before .before .before .before .before .before .args in
+put-delivered-requires c κs = let a = c .before .before .before .before .before .before .before .before .before .before .before .before .before .before .args in
     let p = deliver-passed (a .queue .now) (a .row .now) (a .bytes .now) (passed-by (c .before .before .before .before .before .before .before .before .before .deliver-check .ensures) (c .before .before .before .before .before .before .before .if1 .taken)) in
     (p .row-fits .sixteen, omega (arith, p .room, p .queue-most))
 

@@ -1,30 +1,27 @@
 -- `calls::serial::drain` meets its contract.
-use mathlib.Core.Path.{refl}
 use native.Mathlib.Omega.{arith}
 use borrow.Author.Needs.{needs}
 use Rattle.definition.specs.Calls.{drain}
-use Rattle.encoding.specs.Table.{costTable}
 use Rattle.refusals.proofs.Verdict.{passed-by, refused-by}
 use Rattle.refusals.proofs.Passed.{drain-passed}
 use Rattle.calls.proofs.serial.drain.Statement.{statement}
 use Rattle.calls.proofs.serial.drain.Tie as tie
 
 drain-check-requires : tie.Need-drain-check-requires
-unfolding costTable
-drain-check-requires c κs = refl
+drain-check-requires c κs = search needs
 
 number-at-requires : tie.Need-number-at-requires
-number-at-requires c κs = let a = c .before .before .before .before .before .before .before .before .before .args in
+number-at-requires c κs = let a = c .before .before .before .before .before .before .before .before .args in
     let p = drain-passed (a .output .now) (a .row .now) (a .buffer .now) (passed-by (c .before .before .before .drain-check .ensures) (c .before .if1 .taken)) in
     omega (arith, p .row-fits .sixteen)
 
 drain-to-requires : tie.Need-drain-to-requires
-drain-to-requires c κs = let a = c .before .before .before .before .before .before .before .before .before .before .before .args in
+drain-to-requires c κs = let a = c .before .before .before .before .before .before .before .before .before .before .args in
     let p = drain-passed (a .output .now) (a .row .now) (a .buffer .now) (passed-by (c .before .before .before .before .before .drain-check .ensures) (c .before .before .before .if1 .taken)) in
     rw (c .before .number-at .ensures) (omega (arith, p .row-fits .written .1), p .room)
 
 put-requires : tie.Need-put-requires
-put-requires c κs = let a = c .before .before .before .before .before .before .before .before .before .before .before .before .before .before .before .args in
+put-requires c κs = let a = c .before .before .before .before .before .before .before .before .before .before .before .before .before .before .args in
     let p = drain-passed (a .output .now) (a .row .now) (a .buffer .now) (passed-by (c .before .before .before .before .before .before .before .before .before .drain-check .ensures) (c .before .before .before .before .before .before .before .if1 .taken)) in
     omega (arith, p .row-fits .sixteen)
 

@@ -1,5 +1,5 @@
 use mathlib.Core.List.{List}
-use mathlib.Core.Path.{_≡_, refl, sym, ap, _∙_}
+use mathlib.Core.Path.{_≡_, sym, ap, _∙_}
 use mathlib.Core.List.{[]}
 use native.Mathlib.Omega.{arith}
 use Prim.Native.Nat.{ℕ, _<_, _≤_, _^_}
@@ -8,7 +8,6 @@ use Rattle.definition.specs.declared.Done.{Done}
 use Rattle.definition.specs.Io.{Console}
 use Rattle.definition.specs.Memory.{cellCount}
 use Rattle.definition.specs.Calls.{called, machineOf}
-use Rattle.encoding.specs.Table.{costTable}
 use Rattle.word.proofs.Laws.{back}
 use Rattle.runtime.specs.Meaning.{saves}
 use Rattle.refusals.proofs.Verdict.{passed-by, refused-by}
@@ -27,80 +26,79 @@ use Rattle.runtime.proofs.entry.write_over.Reads as write-over-reads
 use Rattle.z33.proofs.raise.raising.Reads as raising-reads
 use Rattle.z33.proofs.run.state.Reads as state-reads
 
--- src/raise.rt:44:9
+-- src/raise.rt:43:9
 raise-check-requires : tie.Need-raise-check-requires
-unfolding costTable
-raise-check-requires c κs = refl
+raise-check-requires c κs = search needs
+
+-- src/raise.rt:45:13
+state-requires : tie.Need-state-requires
+state-requires c κs = let a = c .before .before .before .before .before .before .args in let p = raise-passed (a .cells .now) (a .row .now) (a .code) (passed-by (c .before .before .before .raise-check .ensures) (c .before .if1 .taken)) .row-fits in (p .sixteen, (p .pc, p .sp))
+
+-- src/raise.rt:46:28
+cast-raising : tie.Need-cast-raising
+cast-raising c = let a = c .before .before .before .before .before .before .before .args in let p = raise-passed (a .cells .now) (a .row .now) (a .code) (passed-by (c .before .before .before .before .raise-check .ensures) (c .before .before .if1 .taken)) .code-most in omega arith
 
 -- src/raise.rt:46:13
-state-requires : tie.Need-state-requires
-state-requires c κs = let a = c .before .before .before .before .before .before .before .args in let p = raise-passed (a .cells .now) (a .row .now) (a .code) (passed-by (c .before .before .before .raise-check .ensures) (c .before .if1 .taken)) .row-fits in (p .sixteen, (p .pc, p .sp))
-
--- src/raise.rt:47:28
-cast-raising : tie.Need-cast-raising
-cast-raising c = let a = c .before .before .before .before .before .before .before .before .args in let p = raise-passed (a .cells .now) (a .row .now) (a .code) (passed-by (c .before .before .before .before .raise-check .ensures) (c .before .before .if1 .taken)) .code-most in omega arith
-
--- src/raise.rt:47:13
 raising-requires : tie.Need-raising-requires
 raising-requires c κs = search needs
 
--- src/raise.rt:48:13
+-- src/raise.rt:47:13
 decide-requires : tie.Need-decide-requires
-decide-requires c κs = let a = c .before .before .before .before .before .before .before .before .before .before .args in let p = raise-passed (a .cells .now) (a .row .now) (a .code) (passed-by (c .before .before .before .before .before .before .raise-check .ensures) (c .before .before .before .before .if1 .taken)) in let n = p .row-fits .cycles .1 in
+decide-requires c κs = let a = c .before .before .before .before .before .before .before .before .before .args in let p = raise-passed (a .cells .now) (a .row .now) (a .code) (passed-by (c .before .before .before .before .before .before .raise-check .ensures) (c .before .before .before .before .if1 .taken)) in let n = p .row-fits .cycles .1 in
     rw (c .before .raising .ensures, c .before .before .state .ensures) (p .cells-fit .least, (p .cells-fit .most, omega arith))
 
--- src/raise.rt:54:13
+-- src/raise.rt:53:13
 write-over-requires : tie.Need-write-over-requires
 write-over-requires c κs = search needs
 
--- src/raise.rt:55:13
+-- src/raise.rt:54:13
 save-entry-requires : tie.Need-save-entry-requires
-save-entry-requires c κs = let a = c .before .before .before .before .before .before .before .before .before .before .before .before .before .before .before .before .before .before .before .before .before .args in let p = raise-passed (a .cells .now) (a .row .now) (a .code) (passed-by (c .before .before .before .before .before .before .before .before .before .before .before .before .before .before .before .before .before .raise-check .ensures) (c .before .before .before .before .before .before .before .before .before .before .before .before .before .before .before .if1 .taken)) .cells-fit .least in let k = c .before .before .before .write-over .kept .0 in omega arith
+save-entry-requires c κs = let a = c .before .before .before .before .before .before .before .before .before .before .before .before .before .before .before .before .before .before .before .before .args in let p = raise-passed (a .cells .now) (a .row .now) (a .code) (passed-by (c .before .before .before .before .before .before .before .before .before .before .before .before .before .before .before .before .before .raise-check .ensures) (c .before .before .before .before .before .before .before .before .before .before .before .before .before .before .before .if1 .taken)) .cells-fit .least in let k = c .before .before .before .write-over .kept .0 in omega arith
 
--- src/raise.rt:56:13
+-- src/raise.rt:55:13
 write-row-requires : tie.Need-write-row-requires
 unfolding machineOf
-write-row-requires c κs = let a = c .before .before .before .before .before .before .before .before .before .before .before .before .before .before .before .before .before .before .before .before .before .before .before .before .args in let p = raise-passed (a .cells .now) (a .row .now) (a .code) (passed-by (c .before .before .before .before .before .before .before .before .before .before .before .before .before .before .before .before .before .before .before .before .raise-check .ensures) (c .before .before .before .before .before .before .before .before .before .before .before .before .before .before .before .before .before .before .if1 .taken)) in
+write-row-requires c κs = let a = c .before .before .before .before .before .before .before .before .before .before .before .before .before .before .before .before .before .before .before .before .before .before .before .args in let p = raise-passed (a .cells .now) (a .row .now) (a .code) (passed-by (c .before .before .before .before .before .before .before .before .before .before .before .before .before .before .before .before .before .before .before .before .raise-check .ensures) (c .before .before .before .before .before .before .before .before .before .before .before .before .before .before .before .before .before .before .if1 .taken)) in
     let h = rw (c .before .before .before .before .before .before .before .before .before .before .before .before .before .before .before .raising .ensures, c .before .before .before .before .before .before .before .before .before .before .before .before .before .before .before .before .state .ensures) at (c .before .before .before .before .before .before .before .before .before .before .before .before .before .decide .ensures) in
     let f = raise-fits (a .cells .now) (a .row .now) (a .code) (c .before .before .before .before .before .before .before .before .before .before .before .before .before .decide .result) (p .cells-fit .most) h (c .before .before .before .before .before .before .before .before .before .before .before .before .if2 .taken) in
     let s = ap (λ (x : Console). x .start) (f .1) in let n = ap (λ (x : Console). x .count) (f .1) in let w = ap (λ (x : Console). x .written) (f .1) in
     let r = p .row-fits in let rs = r .start .1 in let rn = r .count .1 in let rw' = r .written .1 in
     (r .sixteen, (f .0, (omega arith, (omega arith, omega arith))))
 
--- src/raise.rt:57:13
+-- src/raise.rt:56:13
 same-length : tie.Need-same-length
 same-length c = search needs
 
--- src/raise.rt:57:13
+-- src/raise.rt:56:13
 same-length-2 : tie.Need-same-length-2
 same-length-2 c = search needs
 
--- src/raise.rt:57:13
+-- src/raise.rt:56:13
 returns : tie.Need-returns
-returns c = let a = c .before .before .before .before .before .before .before .before .before .before .before .before .before .before .before .before .before .before .before .before .before .before .before .before .before .before .args in let t = passed-by (c .before .before .before .before .before .before .before .before .before .before .before .before .before .before .before .before .before .before .before .before .before .before .raise-check .ensures) (c .before .before .before .before .before .before .before .before .before .before .before .before .before .before .before .before .before .before .before .before .if1 .taken) in let p = raise-passed (a .cells .now) (a .row .now) (a .code) t in
+returns c = let a = c .before .before .before .before .before .before .before .before .before .before .before .before .before .before .before .before .before .before .before .before .before .before .before .before .before .args in let t = passed-by (c .before .before .before .before .before .before .before .before .before .before .before .before .before .before .before .before .before .before .before .before .before .before .raise-check .ensures) (c .before .before .before .before .before .before .before .before .before .before .before .before .before .before .before .before .before .before .before .before .if1 .taken) in let p = raise-passed (a .cells .now) (a .row .now) (a .code) t in
     let h = rw (c .before .before .before .before .before .before .before .before .before .before .before .before .before .before .before .before .before .raising .ensures, c .before .before .before .before .before .before .before .before .before .before .before .before .before .before .before .before .before .before .state .ensures) at (c .before .before .before .before .before .before .before .before .before .before .before .before .before .before .before .decide .ensures) in let d = c .before .before .before .before .before .before .before .before .before .before .before .before .before .before .before .decide .result in
     let e = rw (back (d .sr) (c .before .before .before .before .before .struct-told .given .1 .1 .1 .1 .1 .1 .1 .1 .1 .1 .0 .1)) at (c .before .before .before .before .save-entry .ensures) ∙ ap (λ (x : List ℤ). saves (d .enters) (d .pc) (d .sr) (d .code) x) (c .before .before .before .before .before .before .before .before .write-over .ensures) in
     raise-done (a .cells .now) (a .row .now) (a .code) d (p .cells-fit .most) h t (c .before .before .before .before .before .before .before .before .before .before .before .before .before .before .if2 .taken) _ _ e (c .before .write-row .ensures)
 
--- src/raise.rt:67:19
-cast-t32 : tie.Need-cast-t32
-cast-t32 c = search needs
+-- src/raise.rt:66:19
+cast-t30 : tie.Need-cast-t30
+cast-t30 c = search needs
 
--- src/raise.rt:68:21
-cast-t33 : tie.Need-cast-t33
-cast-t33 c = search needs
+-- src/raise.rt:67:21
+cast-t31 : tie.Need-cast-t31
+cast-t31 c = search needs
 
--- src/raise.rt:64:9
+-- src/raise.rt:63:9
 same-length-3 : tie.Need-same-length-3
 same-length-3 c = search needs
 
--- src/raise.rt:64:9
+-- src/raise.rt:63:9
 same-length-4 : tie.Need-same-length-4
 same-length-4 c = search needs
 
--- src/raise.rt:64:9
+-- src/raise.rt:63:9
 returns-2 : tie.Need-returns-2
-returns-2 c = let a = c .before .before .before .before .before .before .before .before .before .before .before .before .before .before .args in let t = passed-by (c .before .before .before .before .before .before .before .before .before .before .raise-check .ensures) (c .before .before .before .before .before .before .before .before .if1 .taken) in let p = raise-passed (a .cells .now) (a .row .now) (a .code) t in
+returns-2 c = let a = c .before .before .before .before .before .before .before .before .before .before .before .before .before .args in let t = passed-by (c .before .before .before .before .before .before .before .before .before .before .raise-check .ensures) (c .before .before .before .before .before .before .before .before .if1 .taken) in let p = raise-passed (a .cells .now) (a .row .now) (a .code) t in
     let h = rw (c .before .before .before .before .before .raising .ensures, c .before .before .before .before .before .before .state .ensures) at (c .before .before .before .decide .ensures) in
     raise-stopped (a .cells .now) (a .row .now) (a .code) (c .before .before .before .decide .result) (p .cells-fit .most) h t (c .before .before .if2 .left)
 
@@ -114,7 +112,7 @@ same-length-6 c = search needs
 
 -- src/raise.rt:39:1
 returns-3 : tie.Need-returns-3
-returns-3 c = let a = c .before .before .before .before .before .before .args in
+returns-3 c = let a = c .before .before .before .before .before .args in
     ap (λ (d : Done). called (record { refusal = d .refusal; place = d .place; stop = 0; detail = 0 }) (a .cells .now, a .row .now)) (c .before .before .raise-check .ensures) ∙ raise-refused (a .cells .now) (a .row .now) (a .code) (refused-by (c .before .before .raise-check .ensures) (c .if1 .left))
 
 pub z33-raise-spec : {M : Type 1} → statement M
@@ -132,8 +130,8 @@ z33-raise-spec =
     same-length
     same-length-2
     returns
-    cast-t32
-    cast-t33
+    cast-t30
+    cast-t31
     same-length-3
     same-length-4
     returns-2

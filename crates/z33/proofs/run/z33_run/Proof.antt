@@ -1,4 +1,4 @@
-use mathlib.Core.Path.{_≡_, refl, sym, ap, _∙_}
+use mathlib.Core.Path.{_≡_, sym, ap, _∙_}
 use native.Mathlib.Omega.{arith}
 use Prim.Native.Nat.{_<_, _^_}
 use Rattle.definition.specs.declared.Done.{Done}
@@ -7,7 +7,6 @@ use Rattle.definition.specs.Calls.{called, lent, runCheck}
 use Rattle.definition.specs.Runtime.{run, machine}
 use Rattle.definition.specs.Computer.{core}
 use Rattle.definition.proofs.Row.{AcceptedMachine}
-use Rattle.encoding.specs.Table.{costTable}
 use Rattle.runtime.specs.declared.State.{State}
 use Rattle.runtime.specs.Meaning.{machineAt}
 use Rattle.refusals.proofs.Verdict.{passed-by, refused-by}
@@ -23,58 +22,57 @@ use Rattle.row.proofs.write_row.Reads as write-row-reads
 use Rattle.refusals.proofs.run_check.Reads as run-check-reads
 use Rattle.z33.proofs.run.state.Reads as state-reads
 
--- src/run.rt:37:9
+-- src/run.rt:36:9
 run-check-requires : tie.Need-run-check-requires
-unfolding costTable
-run-check-requires c κs = refl
+run-check-requires c κs = search needs
+
+-- src/run.rt:38:13
+state-requires : tie.Need-state-requires
+state-requires c κs = let a = c .before .before .before .before .before .before .before .before .before .before .args in let p = run-passed (lent (a .cells .now) (a .queue .now) (a .output .now) (a .row .now)) (passed-by (c .before .before .before .run-check .ensures) (c .before .if1 .taken)) .row-fits in (p .sixteen, (p .pc, p .sp))
 
 -- src/run.rt:39:13
-state-requires : tie.Need-state-requires
-state-requires c κs = let a = c .before .before .before .before .before .before .before .before .before .before .before .args in let p = run-passed (lent (a .cells .now) (a .queue .now) (a .output .now) (a .row .now)) (passed-by (c .before .before .before .run-check .ensures) (c .before .if1 .taken)) .row-fits in (p .sixteen, (p .pc, p .sp))
-
--- src/run.rt:40:13
 run-requires : tie.Need-run-requires
-run-requires c κs = let a = c .before .before .before .before .before .before .before .before .before .before .before .before .before .before .before .args in rw (c .before .before .before .state .ensures) (run-accepted (a .cells .now) (a .queue .now) (a .output .now) (a .row .now) (passed-by (c .before .before .before .before .before .before .before .run-check .ensures) (c .before .before .before .before .before .if1 .taken)))
+run-requires c κs = let a = c .before .before .before .before .before .before .before .before .before .before .before .before .before .before .args in rw (c .before .before .before .state .ensures) (run-accepted (a .cells .now) (a .queue .now) (a .output .now) (a .row .now) (passed-by (c .before .before .before .before .before .before .before .run-check .ensures) (c .before .before .before .before .before .if1 .taken)))
 
--- src/run.rt:44:9
+-- src/run.rt:43:9
 write-row-requires : tie.Need-write-row-requires
-write-row-requires c κs = let a = c .before .before .before .before .before .before .before .before .before .before .before .before .before .before .before .before .before .before .before .before .before .before .before .args in let h = passed-by (c .before .before .before .before .before .before .before .before .before .before .before .before .before .before .before .run-check .ensures) (c .before .before .before .before .before .before .before .before .before .before .before .before .before .if1 .taken) in let f = rw (c .before .before .before .before .before .before .before .before .before .before .before .state .ensures) at (c .before .before .before .before .before .before .before .run .ensures) in
+write-row-requires c κs = let a = c .before .before .before .before .before .before .before .before .before .before .before .before .before .before .before .before .before .before .before .before .before .before .args in let h = passed-by (c .before .before .before .before .before .before .before .before .before .before .before .before .before .before .before .run-check .ensures) (c .before .before .before .before .before .before .before .before .before .before .before .before .before .if1 .taken) in let f = rw (c .before .before .before .before .before .before .before .before .before .before .before .state .ensures) at (c .before .before .before .before .before .before .before .run .ensures) in
     let p = run-passed (lent (a .cells .now) (a .queue .now) (a .output .now) (a .row .now)) h .row-fits in
     let x = left-accepted (a .cells .now) (a .queue .now) (a .output .now) (a .row .now) h (a .budget) _ _ (c .before .before .before .before .before .before .before .run .result) f in
     let n = x .console-in in let q = n .few in let z = n .small in let s = n .start-in in let t = n .count-in in let w = n .written-in in
     (p .sixteen, (x .cycles-in, (omega arith, (omega arith, omega arith))))
 
--- src/run.rt:48:19
+-- src/run.rt:47:19
+cast-t32 : tie.Need-cast-t32
+cast-t32 c = search needs
+
+-- src/run.rt:48:21
+cast-t33 : tie.Need-cast-t33
+cast-t33 c = search needs
+
+-- src/run.rt:49:20
 cast-t34 : tie.Need-cast-t34
 cast-t34 c = search needs
 
--- src/run.rt:49:21
-cast-t35 : tie.Need-cast-t35
-cast-t35 c = search needs
-
--- src/run.rt:50:20
-cast-t36 : tie.Need-cast-t36
-cast-t36 c = search needs
-
--- src/run.rt:45:9
+-- src/run.rt:44:9
 same-length : tie.Need-same-length
 same-length c = search needs
 
--- src/run.rt:45:9
+-- src/run.rt:44:9
 same-length-2 : tie.Need-same-length-2
 same-length-2 c = search needs
 
--- src/run.rt:45:9
+-- src/run.rt:44:9
 same-length-3 : tie.Need-same-length-3
 same-length-3 c = search needs
 
--- src/run.rt:45:9
+-- src/run.rt:44:9
 same-length-4 : tie.Need-same-length-4
 same-length-4 c = search needs
 
--- src/run.rt:45:9
+-- src/run.rt:44:9
 returns : tie.Need-returns
-returns c = let a = c .before .before .before .before .before .before .before .before .before .before .before .before .before .before .before .before .before .before .before .before .before .before .before .before .before .before .before .before .args in let h = passed-by (c .before .before .before .before .before .before .before .before .before .before .before .before .before .before .before .before .before .before .before .before .run-check .ensures) (c .before .before .before .before .before .before .before .before .before .before .before .before .before .before .before .before .before .before .if1 .taken) in let f = rw (c .before .before .before .before .before .before .before .before .before .before .before .before .before .before .before .before .state .ensures) at (c .before .before .before .before .before .before .before .before .before .before .before .before .run .ensures) in
+returns c = let a = c .before .before .before .before .before .before .before .before .before .before .before .before .before .before .before .before .before .before .before .before .before .before .before .before .before .before .before .args in let h = passed-by (c .before .before .before .before .before .before .before .before .before .before .before .before .before .before .before .before .before .before .before .before .run-check .ensures) (c .before .before .before .before .before .before .before .before .before .before .before .before .before .before .before .before .before .before .if1 .taken) in let f = rw (c .before .before .before .before .before .before .before .before .before .before .before .before .before .before .before .before .state .ensures) at (c .before .before .before .before .before .before .before .before .before .before .before .before .run .ensures) in
     run-answer (a .cells .now) (a .queue .now) (a .output .now) (a .row .now) h (a .budget) _ _ (c .before .before .before .before .before .before .before .before .before .before .before .before .run .result) f _ (c .before .before .before .before .write-row .ensures)
 
 -- src/run.rt:26:1
@@ -95,7 +93,7 @@ same-length-8 c = search needs
 
 -- src/run.rt:26:1
 returns-2 : tie.Need-returns-2
-returns-2 c = let a = c .before .before .before .before .before .before .before .before .before .before .args in let l = lent (a .cells .now) (a .queue .now) (a .output .now) (a .row .now) in
+returns-2 c = let a = c .before .before .before .before .before .before .before .before .before .args in let l = lent (a .cells .now) (a .queue .now) (a .output .now) (a .row .now) in
     ap (λ (d : Done). called (record { refusal = d .refusal; place = d .place; stop = 0; detail = 0; steps = 0 }) l) (c .before .before .run-check .ensures) ∙ run-refused (a .budget) l (refused-by (c .before .before .run-check .ensures) (c .if1 .left))
 
 pub z33-run-spec : {M : Type 1} → statement M
@@ -106,9 +104,9 @@ z33-run-spec =
     state-requires
     run-requires
     write-row-requires
+    cast-t32
+    cast-t33
     cast-t34
-    cast-t35
-    cast-t36
     same-length
     same-length-2
     same-length-3
