@@ -144,8 +144,9 @@ pub fn row_check(row: &[i64], q: usize, o: usize) -> Done
 pub fn damage(cells: &[i64], next: Done) -> Done
     ensures { λ r. ⌜ r ≡ cond (damageTest (now (cells .entry)) .passed) next (refused 5 (lowestDamaged 0 (now (cells .entry)))) ⌝ }
 {
+    let count = cells.len() / 3;
     let n = encoding::lowest_damaged(cells);
-    check(n == cells.len() / 3, 5, n as u64, next)
+    check(n == count, 5, n as u64, next)
 }
 
 // "Fresh tests lengths only, never the row's old numbers."
@@ -156,12 +157,16 @@ pub fn fresh_check(cells: &[i64], row: &[i64]) -> Done
     check(whole, 1, 0, check(row.len() == 16, 4, 0, accept()))
 }
 
+// Its order and damage's are measured: the run's loop, compiled into the same function, gets its registers by them.
 pub fn run_check(cells: &[i64], queue: &[u8], output: &[u8], row: &[i64]) -> Done
     ensures { λ r. ⌜ r ≡ runCheck (lent (now (cells .entry)) (now (queue .entry)) (now (output .entry)) (now (row .entry))) ⌝ }
 {
-    if cells_fit(cells) {
-        if queue_fits(queue) {
-            if output_fits(output) {
+    let whole = cells_fit(cells);
+    let queued = queue_fits(queue);
+    let recorded = output_fits(output);
+    if whole {
+        if queued {
+            if recorded {
                 let d = row_check(row, queue.len(), output.len());
                 if d.refusal == 0 {
                     damage(cells, accept())

@@ -19,7 +19,7 @@ output-fits-requires c κs = search needs
 
 row-check-requires : tie.Need-row-check-requires
 row-check-requires c κs = let a = c .before .before .before .before .before .before .before .before .args in
-    (queue-lengths (a .queue .now) (sym (c .before .before .before .queue-fits .ensures) ∙ c .before .before .if2 .taken) .1, output-length (a .output .now) (sym (c .before .output-fits .ensures) ∙ c .if3 .taken))
+    (queue-lengths (a .queue .now) (sym (c .before .before .before .before .queue-fits .ensures) ∙ c .before .if2 .taken) .1, output-length (a .output .now) (sym (c .before .before .before .output-fits .ensures) ∙ c .if3 .taken))
 
 accept-requires : tie.Need-accept-requires
 accept-requires c κs = search needs
@@ -32,34 +32,34 @@ unfolding runCheck damageTest
 returns c = let a = c .before .before .before .before .before .before .before .before .before .before .before .before .before .args in
     check-by 5 (lowestDamaged 0 (a .cells .now)) _ [] (c .damage .ensures) (accept-by (c .before .accept .ensures))
     ∙ row-passed (length (a .queue .now)) (length (a .output .now)) (a .row .now) _ (passed-by (c .before .before .before .before .row-check .ensures) (c .before .before .if4 .taken))
-    ∙ first-passed (outputTest (a .output .now)) _ (sym (c .before .before .before .before .before .before .output-fits .ensures) ∙ c .before .before .before .before .before .if3 .taken)
-    ∙ first-passed (queueTest (a .queue .now)) _ (sym (c .before .before .before .before .before .before .before .before .queue-fits .ensures) ∙ c .before .before .before .before .before .before .before .if2 .taken)
-    ∙ first-passed (cellsTest (a .cells .now)) _ (sym (c .before .before .before .before .before .before .before .before .before .before .cells-fit .ensures) ∙ c .before .before .before .before .before .before .before .before .before .if1 .taken)
+    ∙ first-passed (outputTest (a .output .now)) _ (sym (c .before .before .before .before .before .before .before .before .output-fits .ensures) ∙ c .before .before .before .before .before .if3 .taken)
+    ∙ first-passed (queueTest (a .queue .now)) _ (sym (c .before .before .before .before .before .before .before .before .before .queue-fits .ensures) ∙ c .before .before .before .before .before .before .if2 .taken)
+    ∙ first-passed (cellsTest (a .cells .now)) _ (sym (c .before .before .before .before .before .before .before .before .before .before .cells-fit .ensures) ∙ c .before .before .before .before .before .before .before .if1 .taken)
 
 returns-2 : tie.Need-returns-2
 unfolding runCheck cellsTest
 returns-2 c = let a = c .before .before .before .before .before .before .before .before .before .before .before .args in
     c .before .before .row-check .ensures ∙ row-refused (length (a .queue .now)) (length (a .output .now)) (a .row .now) _ (refused-by (c .before .before .row-check .ensures) (c .if4 .left))
-    ∙ first-passed (outputTest (a .output .now)) _ (sym (c .before .before .before .before .output-fits .ensures) ∙ c .before .before .before .if3 .taken)
-    ∙ first-passed (queueTest (a .queue .now)) _ (sym (c .before .before .before .before .before .before .queue-fits .ensures) ∙ c .before .before .before .before .before .if2 .taken)
-    ∙ first-passed (cellsTest (a .cells .now)) _ (sym (c .before .before .before .before .before .before .before .before .cells-fit .ensures) ∙ c .before .before .before .before .before .before .before .if1 .taken)
+    ∙ first-passed (outputTest (a .output .now)) _ (sym (c .before .before .before .before .before .before .output-fits .ensures) ∙ c .before .before .before .if3 .taken)
+    ∙ first-passed (queueTest (a .queue .now)) _ (sym (c .before .before .before .before .before .before .before .queue-fits .ensures) ∙ c .before .before .before .before .if2 .taken)
+    ∙ first-passed (cellsTest (a .cells .now)) _ (sym (c .before .before .before .before .before .before .before .before .cells-fit .ensures) ∙ c .before .before .before .before .before .if1 .taken)
 
 returns-3 : tie.Need-returns-3
 unfolding runCheck outputTest
 returns-3 c = let a = c .before .before .before .before .before .before .before .before .args in
-    first-refused (outputTest (a .output .now)) _ (sym (c .before .output-fits .ensures) ∙ c .if3 .left)
-    ∙ first-passed (queueTest (a .queue .now)) _ (sym (c .before .before .before .queue-fits .ensures) ∙ c .before .before .if2 .taken)
-    ∙ first-passed (cellsTest (a .cells .now)) _ (sym (c .before .before .before .before .before .cells-fit .ensures) ∙ c .before .before .before .before .if1 .taken)
+    first-refused (outputTest (a .output .now)) _ (sym (c .before .before .before .output-fits .ensures) ∙ c .if3 .left)
+    ∙ first-passed (queueTest (a .queue .now)) _ (sym (c .before .before .before .before .queue-fits .ensures) ∙ c .before .if2 .taken)
+    ∙ first-passed (cellsTest (a .cells .now)) _ (sym (c .before .before .before .before .before .cells-fit .ensures) ∙ c .before .before .if1 .taken)
 
 returns-4 : tie.Need-returns-4
 unfolding runCheck queueTest
-returns-4 c = let a = c .before .before .before .before .before .before .args in
-    first-refused (queueTest (a .queue .now)) _ (sym (c .before .queue-fits .ensures) ∙ c .if2 .left)
-    ∙ first-passed (cellsTest (a .cells .now)) _ (sym (c .before .before .before .cells-fit .ensures) ∙ c .before .before .if1 .taken)
+returns-4 c = let a = c .before .before .before .before .before .before .before .args in
+    first-refused (queueTest (a .queue .now)) _ (sym (c .before .before .before .queue-fits .ensures) ∙ c .if2 .left)
+    ∙ first-passed (cellsTest (a .cells .now)) _ (sym (c .before .before .before .before .cells-fit .ensures) ∙ c .before .if1 .taken)
 
 returns-5 : tie.Need-returns-5
 unfolding runCheck cellsTest
-returns-5 c = first-refused (cellsTest (c .before .before .before .before .args .cells .now)) _ (sym (c .before .cells-fit .ensures) ∙ c .if1 .left)
+returns-5 c = first-refused (cellsTest (c .before .before .before .before .before .before .args .cells .now)) _ (sym (c .before .before .before .cells-fit .ensures) ∙ c .if1 .left)
 
 pub run-check-spec : {M : Type 1} → statement M
 run-check-spec =
