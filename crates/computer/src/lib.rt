@@ -1,6 +1,7 @@
 // Computer::step and Computer::run of mod.rs, over lent cells, queue and output record.
 use console::ConsoleState;
 use definition::Registers;
+use encoding::costs::COSTS;
 use runtime::State;
 use runtime::arrive::Performed;
 ghost use mathlib.Core.Path.{_≡_};
@@ -148,17 +149,11 @@ pub fn step(
 }
 
 // Computer::run, on a budget.
-pub fn run(
-    cells: &mut [i64],
-    queue: &[u8],
-    output: &mut [u8],
-    costs: &[u8; 1188],
-    m: State,
-    budget: u32,
-) -> Ended
-    requires { do ⌜ AcceptedMachine (machineAt (now cells) (now queue) (now output) m) ⌝; ⌜ now costs ≡ costTable ⌝ }
+pub fn run(cells: &mut [i64], queue: &[u8], output: &mut [u8], m: State, budget: u32) -> Ended
+    requires { do ⌜ AcceptedMachine (machineAt (now cells) (now queue) (now output) m) ⌝ }
     ensures { λ r. ⌜ endedOf (now (cells .exit)) (now (queue .entry)) (now (output .exit)) r ≡ run budget (machineAt (now (cells .entry)) (now (queue .entry)) (now (output .entry)) m) ⌝ }
 {
+    let costs = &COSTS;
     let mut saved = m;
     let mut t = m;
     let mut steps: u32 = 0;

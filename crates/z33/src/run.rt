@@ -36,7 +36,7 @@ pub extern "C" fn z33_run(
     let d = refusals::run_check(cells, queue, output, row);
     if d.refusal == 0 {
         let m = state(row);
-        let e = computer::run(cells, queue, output, &encoding::costs::COSTS, m, budget);
+        let e = computer::run(cells, queue, output, m, budget);
         let after = e.m;
         let s = after.s;
         let k = after.k;

@@ -1,4 +1,4 @@
-use mathlib.Core.Path.{_≡_, refl, sym, ap, _∙_}
+use mathlib.Core.Path.{_≡_, sym, ap, _∙_}
 use native.Mathlib.Omega.{arith}
 use Prim.Native.Nat.{_<_, _^_}
 use Rattle.definition.specs.declared.Done.{Done}
@@ -12,7 +12,6 @@ use Rattle.runtime.specs.Meaning.{machineAt}
 use Rattle.refusals.proofs.Verdict.{passed-by, refused-by}
 use Rattle.refusals.proofs.Passed.{run-passed}
 use Rattle.z33.proofs.Laws.{run-accepted, left-accepted, run-answer, run-refused}
-use Rattle.encoding.specs.Table.{costTable}
 use borrow.Author.Needs.{needs}
 use Rattle.z33.proofs.run.z33_run.Statement.{statement}
 use Rattle.z33.proofs.run.z33_run.Tie as tie
@@ -33,28 +32,27 @@ state-requires c κs = let a = c .before .before .before .before .before .before
 
 -- src/run.rt:39:13
 run-requires : tie.Need-run-requires
-unfolding costTable
-run-requires c κs = let a = c .before .before .before .before .before .before .before .before .before .before .before .before .before .before .before .args in rw (c .before .before .before .before .state .ensures) (run-accepted (a .cells .now) (a .queue .now) (a .output .now) (a .row .now) (passed-by (c .before .before .before .before .before .before .before .before .run-check .ensures) (c .before .before .before .before .before .before .if1 .taken)), refl)
+run-requires c κs = let a = c .before .before .before .before .before .before .before .before .before .before .before .before .before .before .args in rw (c .before .before .before .state .ensures) (run-accepted (a .cells .now) (a .queue .now) (a .output .now) (a .row .now) (passed-by (c .before .before .before .before .before .before .before .run-check .ensures) (c .before .before .before .before .before .if1 .taken)))
 
 -- src/run.rt:43:9
 write-row-requires : tie.Need-write-row-requires
-write-row-requires c κs = let a = c .before .before .before .before .before .before .before .before .before .before .before .before .before .before .before .before .before .before .before .before .before .before .before .args in let h = passed-by (c .before .before .before .before .before .before .before .before .before .before .before .before .before .before .before .before .run-check .ensures) (c .before .before .before .before .before .before .before .before .before .before .before .before .before .before .if1 .taken) in let f = rw (c .before .before .before .before .before .before .before .before .before .before .before .before .state .ensures) at (c .before .before .before .before .before .before .before .run .ensures) in
+write-row-requires c κs = let a = c .before .before .before .before .before .before .before .before .before .before .before .before .before .before .before .before .before .before .before .before .before .before .args in let h = passed-by (c .before .before .before .before .before .before .before .before .before .before .before .before .before .before .before .run-check .ensures) (c .before .before .before .before .before .before .before .before .before .before .before .before .before .if1 .taken) in let f = rw (c .before .before .before .before .before .before .before .before .before .before .before .state .ensures) at (c .before .before .before .before .before .before .before .run .ensures) in
     let p = run-passed (lent (a .cells .now) (a .queue .now) (a .output .now) (a .row .now)) h .row-fits in
     let x = left-accepted (a .cells .now) (a .queue .now) (a .output .now) (a .row .now) h (a .budget) _ _ (c .before .before .before .before .before .before .before .run .result) f in
     let n = x .console-in in let q = n .few in let z = n .small in let s = n .start-in in let t = n .count-in in let w = n .written-in in
     (p .sixteen, (x .cycles-in, (omega arith, (omega arith, omega arith))))
 
 -- src/run.rt:47:19
-cast-t34 : tie.Need-cast-t34
-cast-t34 c = search needs
+cast-t32 : tie.Need-cast-t32
+cast-t32 c = search needs
 
 -- src/run.rt:48:21
-cast-t35 : tie.Need-cast-t35
-cast-t35 c = search needs
+cast-t33 : tie.Need-cast-t33
+cast-t33 c = search needs
 
 -- src/run.rt:49:20
-cast-t36 : tie.Need-cast-t36
-cast-t36 c = search needs
+cast-t34 : tie.Need-cast-t34
+cast-t34 c = search needs
 
 -- src/run.rt:44:9
 same-length : tie.Need-same-length
@@ -74,7 +72,7 @@ same-length-4 c = search needs
 
 -- src/run.rt:44:9
 returns : tie.Need-returns
-returns c = let a = c .before .before .before .before .before .before .before .before .before .before .before .before .before .before .before .before .before .before .before .before .before .before .before .before .before .before .before .before .args in let h = passed-by (c .before .before .before .before .before .before .before .before .before .before .before .before .before .before .before .before .before .before .before .before .before .run-check .ensures) (c .before .before .before .before .before .before .before .before .before .before .before .before .before .before .before .before .before .before .before .if1 .taken) in let f = rw (c .before .before .before .before .before .before .before .before .before .before .before .before .before .before .before .before .before .state .ensures) at (c .before .before .before .before .before .before .before .before .before .before .before .before .run .ensures) in
+returns c = let a = c .before .before .before .before .before .before .before .before .before .before .before .before .before .before .before .before .before .before .before .before .before .before .before .before .before .before .before .args in let h = passed-by (c .before .before .before .before .before .before .before .before .before .before .before .before .before .before .before .before .before .before .before .before .run-check .ensures) (c .before .before .before .before .before .before .before .before .before .before .before .before .before .before .before .before .before .before .if1 .taken) in let f = rw (c .before .before .before .before .before .before .before .before .before .before .before .before .before .before .before .before .state .ensures) at (c .before .before .before .before .before .before .before .before .before .before .before .before .run .ensures) in
     run-answer (a .cells .now) (a .queue .now) (a .output .now) (a .row .now) h (a .budget) _ _ (c .before .before .before .before .before .before .before .before .before .before .before .before .run .result) f _ (c .before .before .before .before .write-row .ensures)
 
 -- src/run.rt:26:1
@@ -106,9 +104,9 @@ z33-run-spec =
     state-requires
     run-requires
     write-row-requires
+    cast-t32
+    cast-t33
     cast-t34
-    cast-t35
-    cast-t36
     same-length
     same-length-2
     same-length-3
