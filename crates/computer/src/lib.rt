@@ -95,7 +95,8 @@ fn finish(
     }
 }
 
-// Computer::step. `saved` is m wherever stop 7 could come. An instruction that leaves nothing else to do is the usual case, and goes first.
+// Computer::step. `saved` is m wherever stop 7 could come. An instruction that leaves nothing else to do is the usual case, and goes first;
+// with a cell to write and without are apart, so that the one without carries no cell (docs/SPEED.md).
 pub fn step(
     cells: &mut [i64],
     queue: &[u8],
