@@ -12,13 +12,13 @@ const MOST: u32 = 300_000;
 const PROGRAMS: usize = 60;
 const MOST_DRAWS: usize = 200_000;
 
-/// A line on what was compared, or the first difference.
+/// A line on what was compared, or the first difference: so many programs, and more until one has ended by itself.
 pub fn check(seed: u64) -> Result<String, String> {
     let (mut rng, mut driver) = (Rng::new(seed), Driver::default());
     let (mut programs, mut steps, mut ended) = (0, 0, 0);
     for _ in 0..MOST_DRAWS {
         let mut case = programs::draw(&mut rng);
-        if programs == PROGRAMS {
+        if programs >= PROGRAMS && ended > 0 {
             break;
         }
         let Some(answer) = long_on_plain(&case) else { continue };
