@@ -1,4 +1,7 @@
-use mathlib.Core.Path.{sym}
+use mathlib.Core.Path.{sym, ap}
+use mathlib.Core.Bool.{Bool, not, _&&_}
+use lib.Dec.{ltb}
+use Rattle.computer.specs.Meaning.{NEAR}
 use borrow.Author.Needs.{needs}
 use Rattle.computer.proofs.is_quiet.Statement.{statement}
 use Rattle.computer.proofs.is_quiet.Tie as tie
@@ -7,11 +10,11 @@ use Rattle.computer.proofs.is_quiet.Lts as lts
 
 -- src/lib.rt:41:9
 returns : tie.Need-returns
-returns c = search needs
+returns c = let a = c .before .before .args in sym (ap (λ (b : Bool). not b && ltb (a .cycles) NEAR) (c .if1 .taken))
 
 -- src/lib.rt:36:1
 returns-2 : tie.Need-returns-2
-returns-2 c = sym (rw (c .if1 .left))
+returns-2 c = let a = c .before .before .args in sym (ap (λ (b : Bool). not b && ltb (a .cycles) NEAR) (c .if1 .left))
 
 pub is-quiet-spec : {M : Type 1} → statement M
 is-quiet-spec = tie.close (tie.spec returns returns-2)
