@@ -58,7 +58,7 @@ pub fn load(cells: &mut [i64], image: &[i64], start: u64) -> Done
     let d = refusals::load_check(cells, image, start);
     if d.refusal == 0 {
         place_image(cells, image, start as usize);
-        return refusals::accept();
+        return checks::accept();
     }
     d
 }

@@ -22,7 +22,7 @@ pub fn fresh(cells: &mut [i64], row: &mut [i64]) -> Done
     if d.refusal == 0 {
         clear(cells);
         clear(row);
-        return refusals::accept();
+        return checks::accept();
     }
     d
 }

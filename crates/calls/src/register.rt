@@ -28,7 +28,7 @@ pub fn set_register(row: &mut [i64], r: u64, w: i64) -> Done
     let d = refusals::set_register_check(row, r, w);
     if d.refusal == 0 {
         put_register(row, r, w);
-        return refusals::accept();
+        return checks::accept();
     }
     d
 }

@@ -25,7 +25,7 @@ pub fn deliver(queue: &mut [u8], row: &mut [i64], bytes: &[u8]) -> Done
         let at = first_free(row, queue.len());
         console::put_bytes(queue, at, bytes);
         row::put_delivered(row, bytes.len());
-        return refusals::accept();
+        return checks::accept();
     }
     d
 }

@@ -1,5 +1,5 @@
--- "Course cases": the starred ones as one table, with three more rows: 255 and 256 cells, a privileged instruction in user mode, and an
--- interrupt. The proof is proofs/Course.
+-- "Course cases": the starred ones as one table, with four more rows: 255 and 256 cells, a privileged instruction in user mode, an interrupt,
+-- and an exception beside a pending interrupt. The proof is proofs/Course. Few rows have 10,000 cells: those cost the most to compute.
 use mathlib.Core.Path.{_≡_}
 use mathlib.Core.List.{List, [], _∷_}
 use Prim.Native.Nat.{ℕ, _*_}
@@ -41,7 +41,7 @@ abbrev case : ℕ → List Line → Cell → ℕ → ℕ → ℕ → ℕ → Cas
 case n i a pc sp b k =
     record { size = n; image = i; a = a; pc = pc; sp = sp; sr = pos 0; pending = pos 0; budget = b; look = k }
 
--- nop with I set and the pending mark set
+-- with I set and the pending mark set
 abbrev interrupted : ℕ → List Line → ℕ → Case
 interrupted n i k =
     record { size = n; image = i; a = empty; pc = 0; sp = 0; sr = pos 256; pending = pos 1; budget = 1; look = k }
@@ -127,16 +127,14 @@ table =
     ∷ gives (case 256 (line 0 (div (pos 0)) ∷ []) empty 0 0 0 0) (done 0 0 0 (pos 0) (pos 0) (pos 0) (pos 0) empty (div (pos 0)))
     -- "pc 9,999 fetches, 10,000 code 5"
     ∷ gives (case 10000 (line 9999 nop ∷ []) empty 9999 0 2 9999) (done 2 5 1 (pos 10000) (pos 0) (pos 0) (pos 1) empty nop)
-    ∷ gives (case 10000 [] empty 10000 0 1 9999) (done 2 5 0 (pos 10000) (pos 0) (pos 0) (pos 0) empty empty)
     -- "push at sp 0"
     ∷ gives (case 256 (line 0 push7 ∷ []) empty 0 0 1 0) (done 2 5 0 (pos 1) (pos 4294967295) (pos 0) (pos 0) empty push7)
     -- "swap [%a],%a writes through the new a"
     ∷ gives (case 256 (line 0 swapA ∷ line 5 (word (pos 9)) ∷ []) (word (pos 5)) 0 0 1 9) (done 0 0 1 (pos 1) (pos 0) (pos 0) (pos 2) (word (pos 9)) (word (pos 5)))
     -- "fas [5],%sr in user mode: cell 5 word 1, code 3", with a handler
     ∷ gives (case 256 (line 0 fasSr ∷ line 200 nop ∷ []) empty 0 0 1 5) (done 0 0 1 (pos 200) (pos 0) (pos 512) (pos 1) empty one)
-    -- "ld [10000],%a: stop 4; st to it: code 5"
-    ∷ gives (case 10000 (line 9998 ldOutside ∷ []) empty 9998 0 1 9999) (done 4 0 0 (pos 9999) (pos 0) (pos 0) (pos 0) empty empty)
-    ∷ gives (case 10000 (line 9998 stOutside ∷ []) empty 9998 0 1 9999) (done 2 5 0 (pos 9999) (pos 0) (pos 0) (pos 0) empty empty)
+    -- "ld [10000],%a: stop 4; st to it: code 5": the handler of the one is the other
+    ∷ gives (case 10000 (line 9998 stOutside ∷ line 200 ldOutside ∷ []) empty 9998 0 2 102) (done 4 0 1 (pos 201) (pos 0) (pos 512) (pos 1) empty (word (pos 5)))
     -- "255 and 256 cells"
     ∷ gives
     (case 255 (line 0 nop ∷ []) empty 0 0 1 0)
@@ -146,6 +144,10 @@ table =
     ∷ gives (case 256 (line 0 inStatus ∷ line 200 nop ∷ []) empty 0 0 1 102) (done 0 0 1 (pos 200) (pos 0) (pos 512) (pos 1) empty (word (pos 3)))
     -- "the pending mark is taken and, if it was set, code 0 is entered", with the old sr in cell 101 and I clear
     ∷ gives (interrupted 256 (line 0 nop ∷ line 200 nop ∷ []) 101) (done 0 0 1 (pos 200) (pos 0) (pos 512) (pos 2) empty (word (pos 256)))
+    -- "An exception step doesn't poll": code 1 is entered, I and the pending mark stay
+    ∷ gives
+    (interrupted 256 (line 0 (div (pos 0)) ∷ line 200 nop ∷ []) 102)
+    (record { refusal = 0; stop = 0; detail = 0; steps = 1; pc = pos 200; sp = pos 0; sr = pos 768; cycles = pos 1; pending = pos 1; written = pos 0; a = empty; there = word (pos 1) })
     ∷ []
 
 -- ---- what a case gives

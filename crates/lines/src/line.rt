@@ -73,7 +73,7 @@ pub fn take_cell(cells: &mut [i64], costs: &[u8; 1188], r: Reader) -> Reader
     let l = r.last;
     let x = l.x;
     let v = line_cell(r);
-    if refusals::is_below(x, 2048) {
+    if checks::is_below(x, 2048) {
         if encoding::sound_cell(costs, v) {
             let n = word::magnitude(x);
             memory::put_cell(cells, n as usize, v);

@@ -6,7 +6,7 @@ use borrow.Author.Needs.{needs}
 use Rattle.definition.specs.Memory.{cellCount}
 use Rattle.definition.specs.Calls.{lowestDamaged}
 use Rattle.encoding.proofs.Rule.{both}
-use Rattle.refusals.proofs.Verdict.{and-false}
+use Rattle.checks.proofs.Verdict.{and-false}
 use Rattle.refusals.proofs.image_fits.Statement.{statement}
 use Rattle.refusals.proofs.image_fits.Tie as tie
 

@@ -9,7 +9,7 @@ use borrow.Author.Tests.{lt-ltb, le-ltb}
 use borrow.Author.Needs.{needs}
 use Rattle.definition.specs.Calls.{lowestDamaged, loadCheck, cellsTest, test}
 use Rattle.definition.specs.Memory.{cellCount}
-use Rattle.refusals.proofs.Verdict.{first-passed, first-refused, check-by, accept-by, room}
+use Rattle.checks.proofs.Verdict.{first-passed, first-refused, check-by, accept-by, room}
 use Rattle.refusals.proofs.load_check.Statement.{statement}
 use Rattle.refusals.proofs.load_check.Tie as tie
 

@@ -4,7 +4,7 @@ use borrow.Author.Tests.{le-leb, lt-leb}
 use borrow.Author.Needs.{needs}
 use Rattle.definition.specs.Memory.{cellAt}
 use Rattle.definition.specs.Encoding.{sound}
-use Rattle.refusals.proofs.Verdict.{or-false, or-true}
+use Rattle.checks.proofs.Verdict.{or-false, or-true}
 use Rattle.refusals.proofs.own_sound.Statement.{statement}
 use Rattle.refusals.proofs.own_sound.Tie as tie
 

@@ -4,7 +4,7 @@ use mathlib.Core.Path.{_∙_, sym}
 use lib.Dec.{leb}
 use borrow.Author.Needs.{needs}
 use Rattle.definition.specs.Calls.{lowestDamaged, raiseCheck, cellsTest, damageTest}
-use Rattle.refusals.proofs.Verdict.{row-passed, row-refused, passed-by, refused-by, first-passed, first-refused, check-by, accept-by}
+use Rattle.checks.proofs.Verdict.{row-passed, row-refused, passed-by, refused-by, first-passed, first-refused, check-by, accept-by}
 use Rattle.refusals.proofs.raise_check.Statement.{statement}
 use Rattle.refusals.proofs.raise_check.Tie as tie
 

@@ -4,7 +4,7 @@ use mathlib.Core.Path.{_∙_, sym}
 use lib.ListN.{length}
 use borrow.Author.Needs.{needs}
 use Rattle.definition.specs.Calls.{lowestDamaged, runCheck, cellsTest, queueTest, outputTest, damageTest}
-use Rattle.refusals.proofs.Verdict.{row-passed, row-refused, passed-by, refused-by, first-passed, first-refused, queue-lengths, output-length, check-by, accept-by}
+use Rattle.checks.proofs.Verdict.{row-passed, row-refused, passed-by, refused-by, first-passed, first-refused, queue-lengths, output-length, check-by, accept-by}
 use Rattle.refusals.proofs.run_check.Statement.{statement}
 use Rattle.refusals.proofs.run_check.Tie as tie
 

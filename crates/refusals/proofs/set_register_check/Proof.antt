@@ -3,7 +3,7 @@ use mathlib.Core.Path.{_∙_}
 use mir.Facts.{toZ-ofZ}
 use borrow.Author.Needs.{needs}
 use Rattle.definition.specs.Calls.{setRegisterCheck}
-use Rattle.refusals.proofs.Verdict.{row-passed, row-refused, passed-by, refused-by, check-by, accept-by}
+use Rattle.checks.proofs.Verdict.{row-passed, row-refused, passed-by, refused-by, check-by, accept-by}
 use Rattle.refusals.proofs.set_register_check.Statement.{statement}
 use Rattle.refusals.proofs.set_register_check.Tie as tie
 

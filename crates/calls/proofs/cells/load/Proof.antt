@@ -1,7 +1,7 @@
 -- `calls::cells::load` meets its contract.
 use borrow.Author.Needs.{needs}
 use Rattle.definition.specs.Calls.{load}
-use Rattle.refusals.proofs.Verdict.{passed-by, refused-by}
+use Rattle.checks.proofs.Verdict.{passed-by, refused-by}
 use Rattle.refusals.proofs.Passed.{load-passed}
 use Rattle.calls.proofs.cells.load.Statement.{statement}
 use Rattle.calls.proofs.cells.load.Tie as tie

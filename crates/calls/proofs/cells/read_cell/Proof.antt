@@ -3,7 +3,7 @@ use native.Mathlib.Omega.{arith}
 use borrow.Author.Needs.{needs}
 use Rattle.definition.specs.Calls.{readCell}
 use Rattle.word.proofs.Laws.{back}
-use Rattle.refusals.proofs.Verdict.{passed-by, refused-by}
+use Rattle.checks.proofs.Verdict.{passed-by, refused-by}
 use Rattle.refusals.proofs.Passed.{read-passed}
 use Rattle.calls.proofs.cells.read_cell.Statement.{statement}
 use Rattle.calls.proofs.cells.read_cell.Tie as tie

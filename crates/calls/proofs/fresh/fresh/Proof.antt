@@ -1,7 +1,7 @@
 -- `calls::fresh::fresh` meets its contract.
 use borrow.Author.Needs.{needs}
 use Rattle.definition.specs.Calls.{fresh}
-use Rattle.refusals.proofs.Verdict.{passed-by, refused-by}
+use Rattle.checks.proofs.Verdict.{passed-by, refused-by}
 use Rattle.refusals.proofs.Passed.{fresh-passed}
 use Rattle.calls.proofs.fresh.fresh.Statement.{statement}
 use Rattle.calls.proofs.fresh.fresh.Tie as tie

@@ -2,7 +2,7 @@
 use mir.Facts.{toZ-ofZ}
 use borrow.Author.Needs.{needs}
 use Rattle.definition.specs.Calls.{setRegister}
-use Rattle.refusals.proofs.Verdict.{passed-by, refused-by}
+use Rattle.checks.proofs.Verdict.{passed-by, refused-by}
 use Rattle.refusals.proofs.Passed.{set-register-passed}
 use Rattle.calls.proofs.register.set_register.Statement.{statement}
 use Rattle.calls.proofs.register.set_register.Tie as tie

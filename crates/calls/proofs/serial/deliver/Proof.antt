@@ -4,7 +4,7 @@ use borrow.Author.Needs.{needs}
 use Rattle.definition.specs.Io.{firstFree}
 use Rattle.definition.specs.Calls.{deliver}
 use Rattle.console.proofs.Queue.{around-below}
-use Rattle.refusals.proofs.Verdict.{passed-by, refused-by}
+use Rattle.checks.proofs.Verdict.{passed-by, refused-by}
 use Rattle.refusals.proofs.Passed.{deliver-passed}
 use Rattle.calls.proofs.serial.deliver.Statement.{statement}
 use Rattle.calls.proofs.serial.deliver.Tie as tie

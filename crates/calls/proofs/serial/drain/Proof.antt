@@ -2,7 +2,7 @@
 use native.Mathlib.Omega.{arith}
 use borrow.Author.Needs.{needs}
 use Rattle.definition.specs.Calls.{drain}
-use Rattle.refusals.proofs.Verdict.{passed-by, refused-by}
+use Rattle.checks.proofs.Verdict.{passed-by, refused-by}
 use Rattle.refusals.proofs.Passed.{drain-passed}
 use Rattle.calls.proofs.serial.drain.Statement.{statement}
 use Rattle.calls.proofs.serial.drain.Tie as tie

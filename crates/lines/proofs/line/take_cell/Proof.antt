@@ -23,7 +23,7 @@ use Rattle.lines.proofs.break_line.Reads as break-line-reads
 use Rattle.lines.proofs.line.line_cell.Reads as line-cell-reads
 use Rattle.lines.proofs.line.next_line.Reads as next-line-reads
 use Rattle.memory.proofs.put_cell.Reads as put-cell-reads
-use Rattle.refusals.proofs.is_below.Reads as is-below-reads
+use Rattle.checks.proofs.is_below.Reads as is-below-reads
 use Rattle.word.proofs.magnitude.Reads as magnitude-reads
 
 -- src/line.rt:75:9

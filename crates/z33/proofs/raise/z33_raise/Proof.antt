@@ -10,7 +10,7 @@ use Rattle.definition.specs.Memory.{cellCount}
 use Rattle.definition.specs.Calls.{called, machineOf}
 use Rattle.word.proofs.Laws.{back}
 use Rattle.runtime.specs.Meaning.{saves}
-use Rattle.refusals.proofs.Verdict.{passed-by, refused-by}
+use Rattle.checks.proofs.Verdict.{passed-by, refused-by}
 use Rattle.refusals.proofs.Passed.{raise-passed}
 use Rattle.z33.proofs.Laws.{raise-done, raise-stopped, raise-fits, raise-refused}
 use borrow.Author.Needs.{needs}

@@ -9,7 +9,7 @@ use Rattle.definition.specs.Computer.{core}
 use Rattle.definition.proofs.Row.{AcceptedMachine}
 use Rattle.runtime.specs.declared.State.{State}
 use Rattle.runtime.specs.Meaning.{machineAt}
-use Rattle.refusals.proofs.Verdict.{passed-by, refused-by}
+use Rattle.checks.proofs.Verdict.{passed-by, refused-by}
 use Rattle.refusals.proofs.Passed.{run-passed}
 use Rattle.z33.proofs.Laws.{run-accepted, left-accepted, run-answer, run-refused}
 use borrow.Author.Needs.{needs}

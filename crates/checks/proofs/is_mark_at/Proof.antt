@@ -2,8 +2,8 @@
 use borrow.Author.Needs.{needs}
 use Rattle.definition.specs.Calls.{isMark}
 use Rattle.word.proofs.Laws.{back}
-use Rattle.refusals.proofs.is_mark_at.Statement.{statement}
-use Rattle.refusals.proofs.is_mark_at.Tie as tie
+use Rattle.checks.proofs.is_mark_at.Statement.{statement}
+use Rattle.checks.proofs.is_mark_at.Tie as tie
 
 mul-z : tie.Need-mul-z
 mul-z c = search needs

@@ -1,8 +1,8 @@
 -- `refusals::output_fits` meets its contract.
 use mathlib.Core.Path.{refl}
 use Rattle.definition.specs.Calls.{outputTest}
-use Rattle.refusals.proofs.output_fits.Statement.{statement}
-use Rattle.refusals.proofs.output_fits.Tie as tie
+use Rattle.checks.proofs.output_fits.Statement.{statement}
+use Rattle.checks.proofs.output_fits.Tie as tie
 
 returns : tie.Need-returns
 unfolding outputTest

@@ -1,8 +1,8 @@
 -- `refusals::damage` meets its contract.
 use borrow.Author.Needs.{needs}
 use Rattle.definition.specs.Calls.{damageTest}
-use Rattle.refusals.proofs.damage.Statement.{statement}
-use Rattle.refusals.proofs.damage.Tie as tie
+use Rattle.checks.proofs.damage.Statement.{statement}
+use Rattle.checks.proofs.damage.Tie as tie
 
 lowest-damaged-requires : tie.Need-lowest-damaged-requires
 lowest-damaged-requires c κs = search needs

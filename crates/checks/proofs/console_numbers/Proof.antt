@@ -3,8 +3,8 @@ use native.Mathlib.Omega.{arith}
 use native.Mathlib.Numerals.{add-one}
 use borrow.Author.Needs.{needs}
 use Rattle.definition.specs.Calls.{verdict, rowTests}
-use Rattle.refusals.proofs.console_numbers.Statement.{statement}
-use Rattle.refusals.proofs.console_numbers.Tie as tie
+use Rattle.checks.proofs.console_numbers.Statement.{statement}
+use Rattle.checks.proofs.console_numbers.Tie as tie
 
 add-below-at : tie.Need-add-below-at
 add-below-at c = search needs

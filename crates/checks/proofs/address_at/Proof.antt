@@ -1,8 +1,8 @@
 -- `refusals::address_at` meets its contract.
 use borrow.Author.Needs.{needs}
 use Rattle.word.proofs.Laws.{back}
-use Rattle.refusals.proofs.address_at.Statement.{statement}
-use Rattle.refusals.proofs.address_at.Tie as tie
+use Rattle.checks.proofs.address_at.Statement.{statement}
+use Rattle.checks.proofs.address_at.Tie as tie
 
 mul-z : tie.Need-mul-z
 mul-z c = search needs

@@ -1,8 +1,8 @@
 -- `refusals::queue_fits` meets its contract.
 use mathlib.Core.Path.{refl}
 use Rattle.definition.specs.Calls.{queueTest}
-use Rattle.refusals.proofs.queue_fits.Statement.{statement}
-use Rattle.refusals.proofs.queue_fits.Tie as tie
+use Rattle.checks.proofs.queue_fits.Statement.{statement}
+use Rattle.checks.proofs.queue_fits.Tie as tie
 
 returns : tie.Need-returns
 unfolding queueTest

@@ -2,8 +2,8 @@
 use borrow.Author.Tests.{eq-eqb, ne-eqb}
 use borrow.Author.Needs.{needs}
 use Rattle.definition.specs.Calls.{verdict, rowTests, lengthTest}
-use Rattle.refusals.proofs.row_check.Statement.{statement}
-use Rattle.refusals.proofs.row_check.Tie as tie
+use Rattle.checks.proofs.row_check.Statement.{statement}
+use Rattle.checks.proofs.row_check.Tie as tie
 
 row-numbers-requires : tie.Need-row-numbers-requires
 row-numbers-requires c κs = search needs

@@ -2,8 +2,8 @@
 use native.Mathlib.Omega.{arith}
 use borrow.Author.Needs.{needs}
 use Rattle.definition.specs.Calls.{verdict, rowTests}
-use Rattle.refusals.proofs.row_numbers.Statement.{statement}
-use Rattle.refusals.proofs.row_numbers.Tie as tie
+use Rattle.checks.proofs.row_numbers.Statement.{statement}
+use Rattle.checks.proofs.row_numbers.Tie as tie
 
 below-at-requires : tie.Need-below-at-requires
 below-at-requires c κs = search needs

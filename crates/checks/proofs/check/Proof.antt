@@ -1,7 +1,7 @@
 -- `refusals::check` meets its contract.
 use borrow.Author.Needs.{needs}
-use Rattle.refusals.proofs.check.Statement.{statement}
-use Rattle.refusals.proofs.check.Tie as tie
+use Rattle.checks.proofs.check.Statement.{statement}
+use Rattle.checks.proofs.check.Tie as tie
 
 returns : tie.Need-returns
 returns c = search needs

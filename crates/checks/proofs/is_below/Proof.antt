@@ -1,9 +1,9 @@
 -- `refusals::is_below` meets its contract.
 use mir.Facts.{toZ-ofZ}
 use Rattle.word.proofs.Laws.{pos-cast}
-use Rattle.refusals.proofs.Verdict.{below-negative, below-natural}
-use Rattle.refusals.proofs.is_below.Statement.{statement}
-use Rattle.refusals.proofs.is_below.Tie as tie
+use Rattle.checks.proofs.Verdict.{below-negative, below-natural}
+use Rattle.checks.proofs.is_below.Statement.{statement}
+use Rattle.checks.proofs.is_below.Tie as tie
 
 cast-result : tie.Need-cast-result
 cast-result c = let f = c .before .fits .z in

@@ -2,8 +2,8 @@
 use mathlib.Core.Path.{_∙_, ap}
 use borrow.Author.Needs.{needs}
 use Rattle.definition.specs.Encoding.{sound}
-use Rattle.refusals.proofs.sound_at.Statement.{statement}
-use Rattle.refusals.proofs.sound_at.Tie as tie
+use Rattle.checks.proofs.sound_at.Statement.{statement}
+use Rattle.checks.proofs.sound_at.Tie as tie
 
 cell-at-requires : tie.Need-cell-at-requires
 cell-at-requires c κs = search needs

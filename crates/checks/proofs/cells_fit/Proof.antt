@@ -1,8 +1,8 @@
 -- `refusals::cells_fit` meets its contract.
 use mathlib.Core.Path.{refl}
 use Rattle.definition.specs.Calls.{cellsTest}
-use Rattle.refusals.proofs.cells_fit.Statement.{statement}
-use Rattle.refusals.proofs.cells_fit.Tie as tie
+use Rattle.checks.proofs.cells_fit.Statement.{statement}
+use Rattle.checks.proofs.cells_fit.Tie as tie
 
 returns : tie.Need-returns
 unfolding cellsTest

@@ -1,0 +1,149 @@
+// "Turned back, in checking order": the tests that several calls make.
+use definition::Done;
+ghost use mathlib.Core.Path.{_≡_};
+ghost use mathlib.Core.Bool.{cond};
+ghost use Prim.Native.Nat.{_+_, _<_, _≤_};
+ghost use lib.IntN.{pos};
+ghost use lib.ListN.{length, getD, drop};
+ghost use Rattle.definition.specs.Word.{addressOf};
+ghost use Rattle.definition.specs.Memory.{cell};
+ghost use Rattle.definition.specs.Encoding.{sound, isAddress};
+ghost use Rattle.definition.specs.Calls.{verdict, accepted, isBelow, isMark, cellsTest, queueTest, outputTest, rowTests, damageTest, lowestDamaged};
+ghost use Rattle.checks.specs.Refusals.{refused};
+
+pub fn accept() -> Done
+    ensures { λ r. ⌜ r ≡ accepted ⌝ }
+{
+    Done {
+        refusal: 0,
+        place: 0,
+    }
+}
+
+// The next answer where the test passed, else this refusal.
+pub fn check(passed: bool, number: u64, place: u64, next: Done) -> Done
+    ensures { λ r. ⌜ r ≡ cond passed next (refused number place) ⌝ }
+{
+    if passed {
+        next
+    } else {
+        Done {
+            refusal: number,
+            place,
+        }
+    }
+}
+
+// "1. The cells are not 3 numbers each for 256 to 10,000 cells."
+pub fn cells_fit(cells: &[i64]) -> bool
+    ensures { λ r. ⌜ r ≡ cellsTest (now (cells .entry)) .passed ⌝ }
+{
+    let n = cells.len();
+    (n % 3 == 0) & ((256 <= n / 3) & (n / 3 <= 10000))
+}
+
+// "2. The queue is not 1 to 4,096 bytes."
+pub fn queue_fits(queue: &[u8]) -> bool
+    ensures { λ r. ⌜ r ≡ queueTest (now (queue .entry)) .passed ⌝ }
+{
+    (1 <= queue.len()) & (queue.len() <= 4096)
+}
+
+// "3. The output record is over 65,536 bytes."
+pub fn output_fits(output: &[u8]) -> bool
+    ensures { λ r. ⌜ r ≡ outputTest (now (output .entry)) .passed ⌝ }
+{
+    output.len() <= 65536
+}
+
+// 0 to n - 1
+pub fn is_below(z: i64, n: u64) -> bool
+    ensures { λ r. ⌜ r ≡ isBelow n z ⌝ }
+{
+    if z < 0 { false } else { (z as u64) < n }
+}
+
+pub fn below_at(row: &[i64], i: usize, n: u64) -> bool
+    requires { ⌜ i < length (now row) ⌝ }
+    ensures { λ r. ⌜ r ≡ isBelow n (getD (now (row .entry)) i (pos 0)) ⌝ }
+{
+    let z = row[i];
+    is_below(z, n)
+}
+
+pub fn is_mark_at(row: &[i64], i: usize) -> bool
+    requires { ⌜ i < length (now row) ⌝ }
+    ensures { λ r. ⌜ r ≡ isMark (getD (now (row .entry)) i (pos 0)) ⌝ }
+{
+    let z = row[i];
+    word::eq(z, 0) | word::eq(z, 1)
+}
+
+pub fn address_at(row: &[i64], i: usize) -> bool
+    requires { ⌜ i < length (now row) ⌝ }
+    ensures { λ r. ⌜ r ≡ isAddress (addressOf (getD (now (row .entry)) i (pos 0))) ⌝ }
+{
+    let z = row[i];
+    encoding::is_address(z)
+}
+
+pub fn sound_at(row: &[i64], i: usize) -> bool
+    requires { ⌜ i + 2 < length (now row) ⌝ }
+    ensures { λ r. ⌜ r ≡ sound (cell (getD (now (row .entry)) i (pos 0)) (getD (now (row .entry)) (i + 1) (pos 0)) (getD (now (row .entry)) (i + 2) (pos 0))) ⌝ }
+{
+    encoding::is_sound(row::cell_at(row, i))
+}
+
+// "4. [...] its number at this place (from 1, the lowest such) is out of range": places 11 to 16.
+pub fn console_numbers(row: &[i64], q: usize, o: usize) -> Done
+    requires { ⌜ (length (now row) ≡ 16) × ((q ≤ 4096) × (o ≤ 65536)) ⌝ }
+    ensures { λ r. ⌜ r ≡ verdict (drop 6 (rowTests q o (now (row .entry)))) ⌝ }
+{
+    let d = check(below_at(row, 15, o as u64 + 1), 4, 16, accept());
+    let d = check(below_at(row, 14, q as u64 + 1), 4, 15, d);
+    let d = check(below_at(row, 13, q as u64), 4, 14, d);
+    let d = check(is_mark_at(row, 12), 4, 13, d);
+    let d = check(is_mark_at(row, 11), 4, 12, d);
+    check(is_mark_at(row, 10), 4, 11, d)
+}
+
+// "a damaged a or b counts at place 1 or 4": the whole row, if it is 16 long.
+pub fn row_numbers(row: &[i64], q: usize, o: usize) -> Done
+    requires { ⌜ (length (now row) ≡ 16) × ((q ≤ 4096) × (o ≤ 65536)) ⌝ }
+    ensures { λ r. ⌜ r ≡ verdict (drop 1 (rowTests q o (now (row .entry)))) ⌝ }
+{
+    let d = check(
+        below_at(row, 9, 0x8000_0000_0000_0000),
+        4,
+        10,
+        console_numbers(row, q, o),
+    );
+    let d = check(address_at(row, 7), 4, 8, d);
+    let d = check(address_at(row, 6), 4, 7, d);
+    let d = check(sound_at(row, 3), 4, 4, d);
+    check(sound_at(row, 0), 4, 1, d)
+}
+
+// "4. The row is not 16 long, or its number at this place [...] is out of range"
+pub fn row_check(row: &[i64], q: usize, o: usize) -> Done
+    requires { ⌜ (q ≤ 4096) × (o ≤ 65536) ⌝ }
+    ensures { λ r. ⌜ r ≡ verdict (rowTests q o (now (row .entry))) ⌝ }
+{
+    if row.len() == 16 {
+        row_numbers(row, q, o)
+    } else {
+        Done {
+            refusal: 4,
+            place: 0,
+        }
+    }
+}
+
+// "5. The cell at this lowest address is damaged"
+pub fn damage(cells: &[i64], next: Done) -> Done
+    ensures { λ r. ⌜ r ≡ cond (damageTest (now (cells .entry)) .passed) next (refused 5 (lowestDamaged 0 (now (cells .entry)))) ⌝ }
+{
+    let count = cells.len() / 3;
+    let n = encoding::lowest_damaged(cells);
+    check(n == count, 5, n as u64, next)
+}
