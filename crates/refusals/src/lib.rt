@@ -1,4 +1,6 @@
 // "Turned back, in checking order": each check answers what the definition's check of the call says.
+use checks::accept;
+use checks::check;
 use definition::Done;
 ghost use mathlib.Core.Path.{_≡_};
 ghost use mathlib.Core.Bool.{_&&_, _||_};
@@ -14,12 +16,7 @@ pub fn fresh_check(cells: &[i64], row: &[i64]) -> Done
     ensures { λ r. ⌜ r ≡ freshCheck (now (cells .entry)) (now (row .entry)) ⌝ }
 {
     let whole = checks::cells_fit(cells);
-    checks::check(
-        whole,
-        1,
-        0,
-        checks::check(row.len() == 16, 4, 0, checks::accept()),
-    )
+    check(whole, 1, 0, check(row.len() == 16, 4, 0, accept()))
 }
 
 // Its order and damage's are measured: the run's loop, compiled into the same function, gets its registers by them.
@@ -34,7 +31,7 @@ pub fn run_check(cells: &[i64], queue: &[u8], output: &[u8], row: &[i64]) -> Don
             if recorded {
                 let d = checks::row_check(row, queue.len(), output.len());
                 if d.refusal == 0 {
-                    checks::damage(cells, checks::accept())
+                    checks::damage(cells, accept())
                 } else {
                     d
                 }
@@ -66,7 +63,7 @@ pub fn deliver_check(queue: &[u8], row: &[i64], bytes: &[u8]) -> Done
         let d = checks::row_check(row, queue.len(), 65536);
         if d.refusal == 0 {
             let room = queue.len() - row::number_at(row, 14) as usize;
-            checks::check(bytes.len() <= room, 6, 0, checks::accept())
+            check(bytes.len() <= room, 6, 0, accept())
         } else {
             d
         }
@@ -86,7 +83,7 @@ pub fn drain_check(output: &[u8], row: &[i64], buffer: &[u8]) -> Done
         let d = checks::row_check(row, 4096, output.len());
         if d.refusal == 0 {
             let n = row::number_at(row, 15) as usize;
-            checks::check(n <= buffer.len(), 7, 0, checks::accept())
+            check(n <= buffer.len(), 7, 0, accept())
         } else {
             d
         }
@@ -116,8 +113,8 @@ pub fn read_check(cells: &[i64], n: u64) -> Done
     let whole = checks::cells_fit(cells);
     let own = own_sound(cells, n);
     let inside = (n as usize) < cells.len() / 3;
-    let next = checks::check(own, 5, n, checks::check(inside, 8, 0, checks::accept()));
-    checks::check(whole, 1, 0, next)
+    let next = check(own, 5, n, check(inside, 8, 0, accept()));
+    check(whole, 1, 0, next)
 }
 
 // A whole number of cells, at most this many, and none damaged.
@@ -139,12 +136,7 @@ pub fn load_check(cells: &[i64], image: &[i64], start: u64) -> Done
     let count = cells.len() / 3;
     if checks::cells_fit(cells) {
         if (start as usize) < count {
-            checks::check(
-                image_fits(image, count - start as usize),
-                9,
-                0,
-                checks::accept(),
-            )
+            check(image_fits(image, count - start as usize), 9, 0, accept())
         } else {
             Done {
                 refusal: 8,
@@ -171,7 +163,7 @@ pub fn set_register_check(row: &[i64], r: u64, w: i64) -> Done
 {
     let d = checks::row_check(row, 4096, 65536);
     if d.refusal == 0 {
-        checks::check(register_fits(r, w), 10, 0, checks::accept())
+        check(register_fits(r, w), 10, 0, accept())
     } else {
         d
     }
@@ -184,7 +176,7 @@ pub fn raise_check(cells: &[i64], row: &[i64], code: u64) -> Done
     if checks::cells_fit(cells) {
         let d = checks::row_check(row, 4096, 65536);
         if d.refusal == 0 {
-            checks::damage(cells, checks::check(code <= 5, 11, 0, checks::accept()))
+            checks::damage(cells, check(code <= 5, 11, 0, accept()))
         } else {
             d
         }
