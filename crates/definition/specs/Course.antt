@@ -1,5 +1,5 @@
 -- "Course cases": the starred ones as one table, with four more rows: 255 and 256 cells, a privileged instruction in user mode, an interrupt,
--- and an exception beside a pending interrupt. The proof is proofs/Course. Few rows have 10,000 cells: those cost the most to compute.
+-- and an exception beside a pending interrupt. The rows of 10,000 cells cost the most to compute, and stand last. The proof is proofs/Course.
 use mathlib.Core.Path.{_≡_}
 use mathlib.Core.List.{List, [], _∷_}
 use Prim.Native.Nat.{ℕ, _*_}
@@ -125,16 +125,12 @@ table =
     ∷ gives (case 256 (line 0 (shl (negsuc 0)) ∷ []) one 0 0 1 0) (done 2 2 0 (pos 1) (pos 0) (pos 0) (pos 0) one (shl (negsuc 0)))
     -- "budget 0: stop 0, 0 steps"
     ∷ gives (case 256 (line 0 (div (pos 0)) ∷ []) empty 0 0 0 0) (done 0 0 0 (pos 0) (pos 0) (pos 0) (pos 0) empty (div (pos 0)))
-    -- "pc 9,999 fetches, 10,000 code 5"
-    ∷ gives (case 10000 (line 9999 nop ∷ []) empty 9999 0 2 9999) (done 2 5 1 (pos 10000) (pos 0) (pos 0) (pos 1) empty nop)
     -- "push at sp 0"
     ∷ gives (case 256 (line 0 push7 ∷ []) empty 0 0 1 0) (done 2 5 0 (pos 1) (pos 4294967295) (pos 0) (pos 0) empty push7)
     -- "swap [%a],%a writes through the new a"
     ∷ gives (case 256 (line 0 swapA ∷ line 5 (word (pos 9)) ∷ []) (word (pos 5)) 0 0 1 9) (done 0 0 1 (pos 1) (pos 0) (pos 0) (pos 2) (word (pos 9)) (word (pos 5)))
     -- "fas [5],%sr in user mode: cell 5 word 1, code 3", with a handler
     ∷ gives (case 256 (line 0 fasSr ∷ line 200 nop ∷ []) empty 0 0 1 5) (done 0 0 1 (pos 200) (pos 0) (pos 512) (pos 1) empty one)
-    -- "ld [10000],%a: stop 4; st to it: code 5": the handler of the one is the other
-    ∷ gives (case 10000 (line 9998 stOutside ∷ line 200 ldOutside ∷ []) empty 9998 0 2 102) (done 4 0 1 (pos 201) (pos 0) (pos 512) (pos 1) empty (word (pos 5)))
     -- "255 and 256 cells"
     ∷ gives
     (case 255 (line 0 nop ∷ []) empty 0 0 1 0)
@@ -148,6 +144,10 @@ table =
     ∷ gives
     (interrupted 256 (line 0 (div (pos 0)) ∷ line 200 nop ∷ []) 102)
     (record { refusal = 0; stop = 0; detail = 0; steps = 1; pc = pos 200; sp = pos 0; sr = pos 768; cycles = pos 1; pending = pos 1; written = pos 0; a = empty; there = word (pos 1) })
+    -- "pc 9,999 fetches, 10,000 code 5"
+    ∷ gives (case 10000 (line 9999 nop ∷ []) empty 9999 0 2 9999) (done 2 5 1 (pos 10000) (pos 0) (pos 0) (pos 1) empty nop)
+    -- "ld [10000],%a: stop 4; st to it: code 5": the handler of the one is the other
+    ∷ gives (case 10000 (line 9998 stOutside ∷ line 200 ldOutside ∷ []) empty 9998 0 2 102) (done 4 0 1 (pos 201) (pos 0) (pos 512) (pos 1) empty (word (pos 5)))
     ∷ []
 
 -- ---- what a case gives
