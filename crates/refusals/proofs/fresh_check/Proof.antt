@@ -18,7 +18,7 @@ check-requires-2 c κs = search needs
 
 returns : tie.Need-returns
 unfolding freshCheck verdict cellsTest lengthTest
-returns c = cc
+returns c = rw (c .check2 .ensures, c .before .check .ensures, c .before .before .accept .ensures, c .before .before .before .cells-fit .ensures)
 
 pub fresh-check-spec : {M : Type 1} → statement M
 fresh-check-spec =
