@@ -10,7 +10,7 @@ is-address-requires c κs = search needs
 
 returns : tie.Need-returns
 unfolding isSettable
-returns c = cc (toZ-ofZ (c .before .fits .w))
+returns c = rw (c .is-address .ensures, toZ-ofZ (c .before .fits .w))
 
 pub register-fits-spec : {M : Type 1} → statement M
 register-fits-spec = tie.close (tie.spec is-address-requires returns)
