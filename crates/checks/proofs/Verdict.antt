@@ -62,6 +62,10 @@ pub check-by : (n p : ℕ) (b : Bool) (ts : List Test) {d e : Done} → d ≡ co
 unfolding verdict
 check-by n p b ts h k = h ∙ ap (λ (x : Done). cond b x (refused n p)) k
 
+-- The same where the test is known by another name.
+pub check-on : (n p : ℕ) (ts : List Test) {b t : Bool} {d e : Done} → d ≡ cond b e (refused n p) → b ≡ t → e ≡ verdict ts → d ≡ verdict (test n p t ∷ ts)
+check-on n p ts {b} h k r = check-by n p b ts h r ∙ ap (λ (x : Bool). verdict (test n p x ∷ ts)) k
+
 pub accept-by : {d : Done} → d ≡ accepted → d ≡ verdict []
 unfolding verdict
 accept-by h = h

@@ -311,13 +311,27 @@ and-not zero n m h k =
     rw e (omega (arith, and-zero-l ((2 ^ 0 - 1) - m), and-zero-l m))
 and-not (suc w) n m h k =
     let p : 2 ^ suc w ≡ 2 ^ w * 2 = pow-suc 2 w in
-    let q : ((2 ^ suc w - 1) - m) / 2 ≡ (2 ^ w - 1) - m / 2 = omega arith in
-    let r : ((2 ^ suc w - 1) - m) % 2 ≡ 1 - m % 2 = omega arith in
+    let q : ((2 ^ suc w - 1) - m) / 2 ≡ (2 ^ w - 1) - m / 2 = rw p (half (2 ^ w) m (rw p at k)) in
+    let r : ((2 ^ suc w - 1) - m) % 2 ≡ 1 - m % 2 = rw p (last (2 ^ w) m (rw p at k)) in
     let t : min (n % 2) (1 - m % 2) + min (n % 2) (m % 2) ≡ n % 2 =
     two (λ (x : ℕ). min x (1 - m % 2) + min x (m % 2) ≡ x)
     (two (λ (y : ℕ). min 0 (1 - y) + min 0 y ≡ 0) refl refl (m % 2) (omega arith))
     (two (λ (y : ℕ). min 1 (1 - y) + min 1 y ≡ 1) refl refl (m % 2) (omega arith)) (n % 2) (omega arith) in
-    rw (and-step n ((2 ^ suc w - 1) - m), and-step n m, q, r) (omega (arith, t, and-not w (n / 2) (m / 2) (omega arith) (omega arith)))
+    rw (and-step n ((2 ^ suc w - 1) - m), and-step n m, q, r)
+    (whole n (bitAnd (n / 2) ((2 ^ w - 1) - m / 2)) (bitAnd (n / 2) (m / 2)) (min (n % 2) (1 - m % 2)) (min (n % 2) (m % 2)) (and-not w (n / 2) (m / 2) (below (2 ^ w) n (rw p at h)) (below (2 ^ w) m (rw p at k))) t)
+  where
+    -- over plain numbers, where `omega` has little to read
+    half : (P a : ℕ) → a < P * 2 → ((P * 2 - 1) - a) / 2 ≡ (P - 1) - a / 2
+    half P a l = omega arith
+
+    last : (P a : ℕ) → a < P * 2 → ((P * 2 - 1) - a) % 2 ≡ 1 - a % 2
+    last P a l = omega arith
+
+    below : (P a : ℕ) → a < P * 2 → a / 2 < P
+    below P a l = omega arith
+
+    whole : (a x y u v : ℕ) → x + y ≡ a / 2 → u + v ≡ a % 2 → (x * 2 + u) + (y * 2 + v) ≡ a
+    whole a x y u v e f = omega arith
 
 and-clear : (n k : ℕ) → k < 64 → n < 2 ^ 64 → bitAnd n ((2 ^ 64 - 1) - 2 ^ k) ≡ put k 0 n
 and-clear n k h f = omega (arith, and-not 64 n (2 ^ k) f (pow-lt h), and-bit n k, zero-mul (2 ^ k))

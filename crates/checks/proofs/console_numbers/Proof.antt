@@ -1,8 +1,13 @@
 -- `refusals::console_numbers` meets its contract.
 use native.Mathlib.Omega.{arith}
 use native.Mathlib.Numerals.{add-one}
+use mathlib.Core.Path.{ap, _∙_}
+use mathlib.Core.List.{[]}
+use Prim.Native.Nat.{ℕ}
+use lib.ListN.{drop}
 use borrow.Author.Needs.{needs}
-use Rattle.definition.specs.Calls.{verdict, rowTests}
+use Rattle.definition.specs.Calls.{rowTests, isBelow, at}
+use Rattle.checks.proofs.Verdict.{check-on, accept-by}
 use Rattle.checks.proofs.console_numbers.Statement.{statement}
 use Rattle.checks.proofs.console_numbers.Tie as tie
 
@@ -52,9 +57,16 @@ check-requires-6 : tie.Need-check-requires-6
 check-requires-6 c κs = search needs
 
 returns : tie.Need-returns
-unfolding verdict rowTests
+unfolding rowTests
 returns c = let a = c .before .before .before .before .before .before .before .before .before .before .before .before .before .args in
-    rw (c .check6 .ensures, c .before .is-mark-at3 .ensures, c .before .before .check5 .ensures, c .before .before .before .is-mark-at2 .ensures, c .before .before .before .before .check4 .ensures, c .before .before .before .before .before .is-mark-at .ensures, c .before .before .before .before .before .before .check3 .ensures, c .before .before .before .before .before .before .before .below-at3 .ensures, c .before .before .before .before .before .before .before .before .check2 .ensures, c .before .before .before .before .before .before .before .before .before .below-at2 .ensures, c .before .before .before .before .before .before .before .before .before .before .check .ensures, c .before .before .before .before .before .before .before .before .before .before .before .before .below-at .ensures, c .before .before .before .before .before .before .before .before .before .before .before .accept .ensures, add-one (a .q), add-one (a .o))
+    let all = rowTests (a .q) (a .o) (a .row .now) in
+    check-on 4 11 (drop 7 all) (c .check6 .ensures) (c .before .is-mark-at3 .ensures)
+    (check-on 4 12 (drop 8 all) (c .before .before .check5 .ensures) (c .before .before .before .is-mark-at2 .ensures)
+    (check-on 4 13 (drop 9 all) (c .before .before .before .before .check4 .ensures) (c .before .before .before .before .before .is-mark-at .ensures)
+    (check-on 4 14 (drop 10 all) (c .before .before .before .before .before .before .check3 .ensures) (c .before .before .before .before .before .before .before .below-at3 .ensures)
+    (check-on 4 15 (drop 11 all) (c .before .before .before .before .before .before .before .before .check2 .ensures) (c .before .before .before .before .before .before .before .before .before .below-at2 .ensures ∙ ap (λ (n : ℕ). isBelow n (at 15 (a .row .now))) (add-one (a .q)))
+    (check-on 4 16 [] (c .before .before .before .before .before .before .before .before .before .before .check .ensures) (c .before .before .before .before .before .before .before .before .before .before .before .before .below-at .ensures ∙ ap (λ (n : ℕ). isBelow n (at 16 (a .row .now))) (add-one (a .o)))
+    (accept-by (c .before .before .before .before .before .before .before .before .before .before .before .accept .ensures)))))))
 
 pub console-numbers-spec : {M : Type 1} → statement M
 console-numbers-spec =

@@ -12,7 +12,7 @@ check-requires c κs = search needs
 
 returns : tie.Need-returns
 unfolding damageTest
-returns c = cc
+returns c = rw (c .check .ensures, c .before .lowest-damaged .ensures)
 
 pub damage-spec : {M : Type 1} → statement M
 damage-spec = tie.close (tie.spec lowest-damaged-requires check-requires returns)

@@ -19,7 +19,7 @@ eq-requires-2 c κs = search needs
 
 returns : tie.Need-returns
 unfolding isMark
-returns c = cc (back _ (c .before .before .z .given))
+returns c = rw (c .eq2 .ensures, c .before .eq .ensures, back _ (c .before .before .z .given))
 
 pub is-mark-at-spec : {M : Type 1} → statement M
 is-mark-at-spec =

@@ -1,5 +1,5 @@
 -- `encoding::lowest_damaged_by` meets its contract.
-use mathlib.Core.Path.{_≡_, _∙_, refl}
+use mathlib.Core.Path.{_≡_, _∙_, refl, sym, ap}
 use mathlib.Core.Bool.{true, false}
 use Prim.Native.Nat.{_*_, _-_, _<_, _≤_}
 use native.Mathlib.Omega.{arith}
@@ -37,13 +37,13 @@ loop-less c = search needs
 loop-again : tie.Need-loop-again Inv-loop μ-loop
 loop-again c = let l = c .before .before .before .before .before .args .cells .now in
     let n = c .before .before .before .before .loop .n in
-    let e : sound (cellAt l n) ≡ true = cc in
+    let e : sound (cellAt l n) ≡ true = ap sound (sym (c .before .before .cell-at .ensures)) ∙ sym (c .before .sound-cell .ensures) ∙ c .if1 .taken in
     (search needs, rw add-one (damaged-later n l (omega arith) e ∙ c .before .before .before .before .loop .inv .1))
 
 returns : tie.Need-returns Inv-loop μ-loop
 returns c = let l = c .before .before .before .before .before .args .cells .now in
     let n = c .before .before .before .before .loop .n in
-    let e : sound (cellAt l n) ≡ false = cc in
+    let e : sound (cellAt l n) ≡ false = ap sound (sym (c .before .before .cell-at .ensures)) ∙ sym (c .before .sound-cell .ensures) ∙ c .if1 .left in
     damaged-here n l (omega arith) e ∙ c .before .before .before .before .loop .inv .1
 
 returns-2 : tie.Need-returns-2 Inv-loop μ-loop

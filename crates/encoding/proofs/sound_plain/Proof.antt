@@ -30,7 +30,7 @@ returns-2 : tie.Need-returns-2
 returns-2 c = let b = c .before .before .before .before .before in
     let f = toZ-ofZ (b .fits .t) in
     let h = rw f at (sym (c .before .before .before .before .eq .ensures) ∙ c .before .before .before .if1 .left) in
-    cc (f, toZ-ofZ (b .fits .f), toZ-ofZ (b .fits .s), empty-sound (b .args .t) (b .args .f) (b .args .s) (b .pre) h)
+    rw (c .eq5 .ensures, c .before .eq4 .ensures, c .before .before .eq3 .ensures, f, toZ-ofZ (b .fits .f), toZ-ofZ (b .fits .s)) (empty-sound (b .args .t) (b .args .f) (b .args .s) (b .pre) h)
 
 pub sound-plain-spec : {M : Type 1} → statement M
 sound-plain-spec =

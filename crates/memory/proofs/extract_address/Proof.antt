@@ -1,4 +1,5 @@
-use Rattle.definition.specs.Memory.{extractAddress}
+use mathlib.Core.Path.{sym, ap, _∙_}
+use Rattle.definition.specs.Memory.{extractAddress, asAddress}
 use Rattle.word.proofs.Laws.{back}
 use Rattle.memory.proofs.Laws.{as-is, as-not}
 use borrow.Author.Needs.{needs}
@@ -28,12 +29,12 @@ enum-told c = search needs
 -- src/lib.rt:81:1
 returns : tie.Need-returns
 unfolding extractAddress
-returns c = let w = c .before .before .w .given .0 .0 in cc (as-is w, back w (c .before .known-told .given .0 .1))
+returns c = let w = c .before .before .w .given .0 .0 in rw (back w (c .before .known-told .given .0 .1)) at (c .to-address .ensures) ∙ sym (as-is w) ∙ ap asAddress (sym (c .before .before .w .given .1) ∙ c .before .before .before .before .extract-word .ensures)
 
 -- src/lib.rt:81:1
 returns-2 : tie.Need-returns-2
 unfolding extractAddress
-returns-2 c = cc (as-not)
+returns-2 c = sym as-not ∙ ap asAddress (sym (c .enum-told .given .1) ∙ c .before .before .extract-word .ensures)
 
 pub extract-address-spec : {M : Type 1} → statement M
 extract-address-spec =

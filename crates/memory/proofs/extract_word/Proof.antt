@@ -14,7 +14,7 @@ word-from-requires c κs = search needs
 -- src/lib.rt:74:1
 returns : tie.Need-returns
 unfolding extractWord
-returns c = let v = c .before .before .before .args .v in cc (back (v .tag) (c .before .struct-told2 .given .0 .1), back (v .first) (c .before .struct-told2 .given .1 .0 .1))
+returns c = let v = c .before .before .before .args .v in rw (c .word-from .ensures, back (v .tag) (c .before .struct-told2 .given .0 .1), back (v .first) (c .before .struct-told2 .given .1 .0 .1))
 
 pub extract-word-spec : {M : Type 1} → statement M
 extract-word-spec = tie.close (tie.spec word-from-requires returns)

@@ -40,7 +40,7 @@ returns-3 c = c .address-cell2 .ensures ∙ ap (λ (r : Reg). getReg r (c .befor
 -- src/lib.rt:63:1
 returns-4 : tie.Need-returns-4
 unfolding getReg regAt
-returns-4 c = let s = c .before .before .before .args .s in cc (back (s .sr) (c .before .struct-told .given .1 .1 .1 .1 .0 .1), ap (λ (r : Reg). getReg r s) (reg-is _ 4 (c .before .before .match .keys4)))
+returns-4 c = let s = c .before .before .before .args .s in rw (back (s .sr) (c .before .struct-told .given .1 .1 .1 .1 .0 .1)) at (c .word-cell .ensures) ∙ ap (λ (r : Reg). getReg r s) (reg-is _ 4 (c .before .before .match .keys4))
 
 -- src/lib.rt:63:1
 returns-5 : tie.Need-returns-5

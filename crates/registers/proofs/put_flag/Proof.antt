@@ -12,7 +12,7 @@ put-bit-requires c κs = search needs
 
 -- src/lib.rt:46:1
 returns : tie.Need-returns
-returns c = cc (back (c .before .before .args .s .sr) (c .before .struct-told .given .1 .1 .1 .1 .0 .1), back (c .put-bit .result) (c .put-bit .ok))
+returns c = rw (c .put-bit .ensures, back (c .before .before .args .s .sr) (c .before .struct-told .given .1 .1 .1 .1 .0 .1))
 
 pub put-flag-spec : {M : Type 1} → statement M
 put-flag-spec = tie.close (tie.spec put-bit-requires returns)

@@ -16,7 +16,7 @@ number-at-requires-3 : tie.Need-number-at-requires-3
 number-at-requires-3 c κs = search needs
 
 returns : tie.Need-returns
-returns c = cc
+returns c = rw (c .number-at3 .ensures, c .before .number-at2 .ensures, c .before .before .number-at .ensures, c .before .before .before .marks .ensures)
 
 pub console-state-spec : {M : Type 1} → statement M
 console-state-spec =

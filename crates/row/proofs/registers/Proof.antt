@@ -26,7 +26,7 @@ cast-t10 : tie.Need-cast-t10
 cast-t10 c = search needs
 
 returns : tie.Need-returns
-returns c = cc (back _ (c .before .before .before .before .sr .given))
+returns c = rw (c .number-at2 .ensures, c .before .number-at .ensures, c .before .before .cell-at2 .ensures, c .before .before .before .cell-at .ensures, back _ (c .before .before .before .before .sr .given))
 
 pub registers-spec : {M : Type 1} → statement M
 registers-spec =

@@ -1,9 +1,12 @@
 -- `word::mul` meets its contract.
-use mathlib.Core.Path.{_≡_, ap, _∙_}
+use mathlib.Core.Path.{_≡_, ap, ap₂, _∙_}
+use Prim.Native.Nat.{ℕ, _*_, _%_, _^_}
 use lib.IntN.{natAbs, _*ℤ_}
 use borrow.Author.Needs.{needs}
+use mir.Syntax.{w64}
+use mir.Val.{ofZ, toZ}
 use mir.Facts.{toZ-ofZ}
-use Rattle.definition.specs.Word.{wrap}
+use Rattle.definition.specs.Word.{bits, wrap}
 use Rattle.definition.proofs.Bits.{bits-ofZ}
 use Rattle.definition.proofs.Words.{wrapped-by}
 use Rattle.word.proofs.Laws.{back, differ, limit-fits, mul-bits, mul-over}
@@ -46,8 +49,10 @@ returns c =
     let s = t .before .before .before .before in
     let fa = s .fits .a in
     let fb = s .fits .b in
+    let x : t .before .before .before .to-bits .result ≡ ofZ w64 (s .args .a) = t .before .before .before .to-bits .ensures ∙ ap bits (toZ-ofZ fa) ∙ bits-ofZ (s .args .a) fa in
+    let y : t .before .before .to-bits2 .result ≡ ofZ w64 (s .args .b) = t .before .before .to-bits2 .ensures ∙ ap bits (toZ-ofZ fb) ∙ bits-ofZ (s .args .b) fb in
     let e : t .of-bits .result ≡ wrap (s .args .a *ℤ s .args .b) =
-    cc (toZ-ofZ fa, toZ-ofZ fb, bits-ofZ (s .args .a) fa, bits-ofZ (s .args .b) fb, mul-bits (s .args .a) (s .args .b) fa fb) in
+    t .of-bits .ensures ∙ ap (toZ w64) (t .before .wrapping-mul .ensures ∙ ap₂ (λ (m n : ℕ). (m * n) % 2 ^ 64) x y ∙ mul-bits (s .args .a) (s .args .b) fa fb) in
     let m : c .before .before .magnitude .result ≡ natAbs (s .args .a) = c .before .before .magnitude .ensures ∙ ap natAbs (toZ-ofZ fa) in
     let n : c .before .magnitude2 .result ≡ natAbs (s .args .b) = c .before .magnitude2 .ensures ∙ ap natAbs (toZ-ofZ fb) in
     rw (back (t .of-bits .result) (t .of-bits .ok), e, c .above .ensures, toZ-ofZ fa, toZ-ofZ fb, m, n) (wrapped-by (s .args .a *ℤ s .args .b) (mul-over (s .args .a) (s .args .b)))

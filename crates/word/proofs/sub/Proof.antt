@@ -1,9 +1,12 @@
 -- `word::sub` meets its contract.
-use mathlib.Core.Path.{_≡_}
+use mathlib.Core.Path.{_≡_, sym, ap, _∙_}
+use Prim.Native.Nat.{ℕ, _+_, _%_, _^_}
 use lib.IntN.{_-ℤ_}
 use borrow.Author.Needs.{needs}
+use mir.Syntax.{w64}
+use mir.Val.{toZ}
 use mir.Facts.{toZ-ofZ}
-use Rattle.definition.specs.Word.{wrap}
+use Rattle.definition.specs.Word.{bits, wrap}
 use Rattle.definition.proofs.Words.{wrapped-by}
 use Rattle.word.proofs.Laws.{back, sub-bits, sub-over}
 use Rattle.word.proofs.sub.Statement.{statement}
@@ -27,7 +30,10 @@ returns c =
     let s = c .before .before .before .before in
     let fa = s .fits .a in
     let fb = s .fits .b in
-    let e : c .of-bits .result ≡ wrap (s .args .a -ℤ s .args .b) = cc (sub-bits (s .args .a) (s .args .b) (c .before .wrapping-sub-u64 .result) (c .before .wrapping-sub-u64 .ok) (cc (toZ-ofZ fa, toZ-ofZ fb))) in
+    let x : c .before .before .before .to-bits .result ≡ bits (s .args .a) = c .before .before .before .to-bits .ensures ∙ ap bits (toZ-ofZ fa) in
+    let y : c .before .before .to-bits2 .result ≡ bits (s .args .b) = c .before .before .to-bits2 .ensures ∙ ap bits (toZ-ofZ fb) in
+    let r = c .before .wrapping-sub-u64 .result in
+    let e : c .of-bits .result ≡ wrap (s .args .a -ℤ s .args .b) = c .of-bits .ensures ∙ ap (toZ w64) (sub-bits (s .args .a) (s .args .b) r (c .before .wrapping-sub-u64 .ok) (ap (λ (n : ℕ). (r + n) % 2 ^ 64) (sym y) ∙ c .before .wrapping-sub-u64 .ensures ∙ x)) in
     rw (toZ-ofZ fa, toZ-ofZ fb, back (c .of-bits .result) (c .of-bits .ok), e) (wrapped-by (s .args .a -ℤ s .args .b) (sub-over (s .args .a) (s .args .b) fa fb))
 
 pub sub-spec : {M : Type 1} → statement M

@@ -1,18 +1,14 @@
-use mathlib.Core.List.{List}
-use lib.IntN.{natAbs, ℤ}
-use Rattle.definition.specs.Memory.{putCell}
-use Rattle.lines.specs.Reader.{cellLine, lineCell, state}
-use Rattle.lines.proofs.Laws.{cell-put, cell-damaged, cell-outside}
+-- Each fact is named where it is used: a search over all that is known here takes ten times as long.
 use native.Mathlib.Omega.{arith}
 use mathlib.Core.Path.{_≡_, _∙_, sym, ap}
 use mathlib.Core.Bool.{true, false}
-use Prim.Native.Nat.{_<_}
 use lib.IntN.{natAbs}
 use Rattle.definition.specs.Calls.{isBelow}
 use Rattle.definition.specs.Encoding.{sound}
 use Rattle.word.proofs.Laws.{back}
-use Rattle.lines.specs.Reader.{cellLine, lineCell}
-use Rattle.lines.proofs.Laws.{below-in}
+use Rattle.lines.specs.declared.Reader.{Reader}
+use Rattle.lines.specs.Reader.{lineCell, state}
+use Rattle.lines.proofs.Laws.{below-in, cell-put, cell-damaged, cell-outside}
 use borrow.Author.Needs.{needs}
 use Rattle.lines.proofs.line.take_cell.Statement.{statement}
 use Rattle.lines.proofs.line.take_cell.Tie as tie
@@ -44,10 +40,11 @@ magnitude-requires c κs = search needs
 
 -- src/line.rt:79:13
 put-cell-requires : tie.Need-put-cell-requires
-put-cell-requires c κs = let x = c .before .before .before .before .before .before .before .before .before .args .r .last .x in
+put-cell-requires c κs = let a = c .before .before .before .before .before .before .before .before .before .args in
+    let x = a .r .last .x in
     let b = back x (c .before .before .before .before .before .before .before .struct-told .given .0 .1) in
-    let t : isBelow 2048 x ≡ true = cc in
-    let n : c .before .magnitude .result ≡ natAbs x = cc in
+    let t : isBelow 2048 x ≡ true = ap (isBelow 2048) (sym b) ∙ sym (c .before .before .before .before .before .is-below .ensures) ∙ c .before .before .before .before .if1 .taken in
+    let n : c .before .magnitude .result ≡ natAbs x = c .before .magnitude .ensures ∙ ap natAbs b in
     let h = below-in 2048 x t in
     let p = c .before .before .before .before .before .before .before .before .before .pre .0 in
     omega arith
@@ -62,12 +59,14 @@ same-length c = search needs
 
 -- src/line.rt:80:13
 returns : tie.Need-returns
-returns c = let r = c .before .before .before .before .before .before .before .before .before .before .before .before .args .r in
-    let b = back (r .last .x) (c .before .before .before .before .before .before .before .before .before .before .struct-told .given .0 .1) in
-    let t : isBelow 2048 (r .last .x) ≡ true = cc in
-    let s : sound (lineCell r) ≡ true = cc in
-    let n : c .before .before .before .before .magnitude .result ≡ natAbs (r .last .x) = cc in
-    rw (c .next-line .ensures, c .before .before .put-cell .ensures, n, c .before .before .before .before .before .before .before .before .before .line-cell .ensures) (sym (cell-put r (c .before .before .before .before .before .before .before .before .before .before .before .before .args .cells .now) t s))
+returns c = let a = c .before .before .before .before .before .before .before .before .before .before .before .before .args in
+    let x = a .r .last .x in
+    let b = back x (c .before .before .before .before .before .before .before .before .before .before .struct-told .given .0 .1) in
+    let t : isBelow 2048 x ≡ true = ap (isBelow 2048) (sym b) ∙ sym (c .before .before .before .before .before .before .before .before .is-below .ensures) ∙ c .before .before .before .before .before .before .before .if1 .taken in
+    let v : c .before .before .before .before .before .before .before .before .before .line-cell .result ≡ lineCell (a .r) = c .before .before .before .before .before .before .before .before .before .line-cell .ensures in
+    let s : sound (lineCell (a .r)) ≡ true = ap sound (sym v) ∙ sym (c .before .before .before .before .before .before .sound-cell .ensures) ∙ c .before .before .before .before .before .if2 .taken in
+    let n : c .before .before .before .before .magnitude .result ≡ natAbs x = c .before .before .before .before .magnitude .ensures ∙ ap natAbs b in
+    rw (c .next-line .ensures, c .before .before .put-cell .ensures, n, v) (sym (cell-put (a .r) (a .cells .now) t s))
 
 -- src/line.rt:82:9
 break-line-requires : tie.Need-break-line-requires
@@ -75,11 +74,12 @@ break-line-requires c κs = search needs
 
 -- src/line.rt:82:9
 returns-2 : tie.Need-returns-2
-returns-2 c = let r = c .before .before .before .before .before .before .before .before .args .r in
-    let b = back (r .last .x) (c .before .before .before .before .before .before .struct-told .given .0 .1) in
-    let t : isBelow 2048 (r .last .x) ≡ true = cc in
-    let s : sound (lineCell r) ≡ false = cc in
-    rw (c .break-line .ensures) (sym (cell-damaged r (c .before .before .before .before .before .before .before .before .args .cells .now) t s))
+returns-2 c = let a = c .before .before .before .before .before .before .before .before .args in
+    let x = a .r .last .x in
+    let b = back x (c .before .before .before .before .before .before .struct-told .given .0 .1) in
+    let t : isBelow 2048 x ≡ true = ap (isBelow 2048) (sym b) ∙ sym (c .before .before .before .before .is-below .ensures) ∙ c .before .before .before .if1 .taken in
+    let s : sound (lineCell (a .r)) ≡ false = ap sound (sym (c .before .before .before .before .before .line-cell .ensures)) ∙ sym (c .before .before .sound-cell .ensures) ∙ c .before .if2 .left in
+    ap (λ (q : Reader). state q (a .cells .now)) (c .break-line .ensures) ∙ sym (cell-damaged (a .r) (a .cells .now) t s)
 
 -- src/line.rt:84:5
 break-line-requires-2 : tie.Need-break-line-requires-2
@@ -87,10 +87,11 @@ break-line-requires-2 c κs = search needs
 
 -- src/line.rt:69:1
 returns-3 : tie.Need-returns-3
-returns-3 c = let r = c .before .before .before .before .before .before .args .r in
-    let b = back (r .last .x) (c .before .before .before .before .struct-told .given .0 .1) in
-    let t : isBelow 2048 (r .last .x) ≡ false = cc in
-    rw (c .break-line2 .ensures) (sym (cell-outside r (c .before .before .before .before .before .before .args .cells .now) t))
+returns-3 c = let a = c .before .before .before .before .before .before .args in
+    let x = a .r .last .x in
+    let b = back x (c .before .before .before .before .struct-told .given .0 .1) in
+    let t : isBelow 2048 x ≡ false = ap (isBelow 2048) (sym b) ∙ sym (c .before .before .is-below .ensures) ∙ c .before .if1 .left in
+    ap (λ (q : Reader). state q (a .cells .now)) (c .break-line2 .ensures) ∙ sym (cell-outside (a .r) (a .cells .now) t)
 
 pub take-cell-spec : {M : Type 1} → statement M
 take-cell-spec =

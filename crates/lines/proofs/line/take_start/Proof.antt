@@ -1,5 +1,6 @@
-use mathlib.Core.Path.{_≡_}
+use mathlib.Core.Path.{_≡_, _∙_, sym, ap}
 use mathlib.Core.Bool.{true, false, _&&_}
+use lib.IntN.{ℤ}
 use Rattle.definition.specs.Word.{addressOf}
 use Rattle.definition.specs.Encoding.{isAddress}
 use Rattle.word.proofs.Laws.{back}
@@ -38,7 +39,9 @@ returns c = let l = c .before .before .before .before .before .before .before .b
     let by = back (l .y) (g .1 .0 .1) in
     let bz = back (l .z) (g .1 .1 .0 .1) in
     let w = c .before .value-of in
-    let t : (isAddress (addressOf (l .y)) && isAddress (addressOf (l .z))) ≡ true = cc in
+    let ey : c .before .before .before .before .is-address .result ≡ isAddress (addressOf (l .y)) = c .before .before .before .before .is-address .ensures ∙ ap (λ (z : ℤ). isAddress (addressOf z)) by in
+    let ez : c .before .before .before .is-address2 .result ≡ isAddress (addressOf (l .z)) = c .before .before .before .is-address2 .ensures ∙ ap (λ (z : ℤ). isAddress (addressOf z)) bz in
+    let t : (isAddress (addressOf (l .y)) && isAddress (addressOf (l .z))) ≡ true = (λ i. sym ey i && sym ez i) ∙ c .before .before .if1 .taken in
     rw (by, bz, back (w .result) (w .ok), w .ensures, c .next-line .ensures, t)
 
 -- src/line.rt:53:5
@@ -52,7 +55,9 @@ returns-2 c = let l = c .before .before .before .before .before .before .before 
     let g = c .before .before .before .before .struct-told2 .given in
     let by = back (l .y) (g .1 .0 .1) in
     let bz = back (l .z) (g .1 .1 .0 .1) in
-    let t : (isAddress (addressOf (l .y)) && isAddress (addressOf (l .z))) ≡ false = cc in
+    let ey : c .before .before .before .is-address .result ≡ isAddress (addressOf (l .y)) = c .before .before .before .is-address .ensures ∙ ap (λ (z : ℤ). isAddress (addressOf z)) by in
+    let ez : c .before .before .is-address2 .result ≡ isAddress (addressOf (l .z)) = c .before .before .is-address2 .ensures ∙ ap (λ (z : ℤ). isAddress (addressOf z)) bz in
+    let t : (isAddress (addressOf (l .y)) && isAddress (addressOf (l .z))) ≡ false = (λ i. sym ey i && sym ez i) ∙ c .before .if1 .left in
     rw (c .break-line .ensures, t)
 
 pub take-start-spec : {M : Type 1} → statement M

@@ -3,35 +3,52 @@ use mathlib.Core.Path.{_≡_, refl, ap}
 use Prim.Native.Nat.{ℕ}
 use native.Mathlib.Omega.{arith}
 use Rattle.recorded.specs.declared.compare.Answer.{Answer}
+use Rattle.recorded.specs.declared.compare.Fault.the-variants as F
 use Rattle.recorded.proofs.compare.answers.Statement.{statement}
 use Rattle.recorded.proofs.compare.answers.Tie as tie
 use Rattle.recorded.proofs.compare.answers.Reads as reads
 use Rattle.recorded.proofs.compare.answers.Lts as lts
 
+-- each fault is one: said here, where nothing else is known, `cc` is quick
+no-refusal : F.Refusal ≡ F.Nothing → ⊥
+no-refusal e = let z : _≡_ {A = ℕ} 0 1 = cc in omega arith
+
+no-place : F.Place ≡ F.Nothing → ⊥
+no-place e = let z : _≡_ {A = ℕ} 0 1 = cc in omega arith
+
+no-stop : F.Stop ≡ F.Nothing → ⊥
+no-stop e = let z : _≡_ {A = ℕ} 0 1 = cc in omega arith
+
+no-detail : F.Detail ≡ F.Nothing → ⊥
+no-detail e = let z : _≡_ {A = ℕ} 0 1 = cc in omega arith
+
+no-count : F.Count ≡ F.Nothing → ⊥
+no-count e = let z : _≡_ {A = ℕ} 0 1 = cc in omega arith
+
 -- src/compare.rt:19:9
 returns : tie.Need-returns
 returns c =
-    ((λ e. absurd (let z : _≡_ {A = ℕ} 0 1 = cc in omega arith)), λ e. absurd (c .if1 .taken (ap (λ (a : Answer). a .refusal) e)))
+    ((λ e. absurd (no-refusal e)), λ e. absurd (c .if1 .taken (ap (λ (a : Answer). a .refusal) e)))
 
 -- src/compare.rt:22:9
 returns-2 : tie.Need-returns-2
 returns-2 c =
-    ((λ e. absurd (let z : _≡_ {A = ℕ} 0 1 = cc in omega arith)), λ e. absurd (c .if2 .taken (ap (λ (a : Answer). a .place) e)))
+    ((λ e. absurd (no-place e)), λ e. absurd (c .if2 .taken (ap (λ (a : Answer). a .place) e)))
 
 -- src/compare.rt:25:9
 returns-3 : tie.Need-returns-3
 returns-3 c =
-    ((λ e. absurd (let z : _≡_ {A = ℕ} 0 1 = cc in omega arith)), λ e. absurd (c .if3 .taken (ap (λ (a : Answer). a .stop) e)))
+    ((λ e. absurd (no-stop e)), λ e. absurd (c .if3 .taken (ap (λ (a : Answer). a .stop) e)))
 
 -- src/compare.rt:28:9
 returns-4 : tie.Need-returns-4
 returns-4 c =
-    ((λ e. absurd (let z : _≡_ {A = ℕ} 0 1 = cc in omega arith)), λ e. absurd (c .if4 .taken (ap (λ (a : Answer). a .detail) e)))
+    ((λ e. absurd (no-detail e)), λ e. absurd (c .if4 .taken (ap (λ (a : Answer). a .detail) e)))
 
 -- src/compare.rt:31:9
 returns-5 : tie.Need-returns-5
 returns-5 c =
-    ((λ e. absurd (let z : _≡_ {A = ℕ} 0 1 = cc in omega arith)), λ e. absurd (c .if5 .taken (ap (λ (a : Answer). a .count) e)))
+    ((λ e. absurd (no-count e)), λ e. absurd (c .if5 .taken (ap (λ (a : Answer). a .count) e)))
 
 -- src/compare.rt:15:1
 returns-6 : tie.Need-returns-6

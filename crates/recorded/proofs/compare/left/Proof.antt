@@ -4,6 +4,7 @@ use mathlib.Core.Bool.{Bool, true, false, not, true≢false}
 use Prim.Native.Nat.{ℕ}
 use native.Mathlib.Omega.{arith}
 use borrow.Author.Needs.{needs}
+use Rattle.recorded.specs.declared.compare.Fault.the-variants as F
 use Rattle.recorded.proofs.compare.left.Statement.{statement}
 use Rattle.recorded.proofs.compare.left.Tie as tie
 use Rattle.recorded.proofs.compare.left.Reads as reads
@@ -19,6 +20,22 @@ agrees : (b : Bool) → not b ≡ false → b ≡ true
 agrees true n = refl
 agrees false n = absurd (true≢false n)
 
+-- each fault is one: said here, where nothing else is known, `cc` is quick
+no-row : F.Row ≡ F.Nothing → ⊥
+no-row e = let z : _≡_ {A = ℕ} 0 1 = cc in omega arith
+
+no-cells : F.Cells ≡ F.Nothing → ⊥
+no-cells e = let z : _≡_ {A = ℕ} 0 1 = cc in omega arith
+
+no-queue : F.Queue ≡ F.Nothing → ⊥
+no-queue e = let z : _≡_ {A = ℕ} 0 1 = cc in omega arith
+
+no-output : F.Output ≡ F.Nothing → ⊥
+no-output e = let z : _≡_ {A = ℕ} 0 1 = cc in omega arith
+
+no-buffer : F.Buffer ≡ F.Nothing → ⊥
+no-buffer e = let z : _≡_ {A = ℕ} 0 1 = cc in omega arith
+
 -- src/compare.rt:51:9
 same-numbers-requires : tie.Need-same-numbers-requires
 same-numbers-requires c κs = search needs
@@ -26,7 +43,7 @@ same-numbers-requires c κs = search needs
 -- src/compare.rt:52:9
 returns : tie.Need-returns
 returns c =
-    ((λ e. absurd (let z : _≡_ {A = ℕ} 0 1 = cc in omega arith)), λ e. absurd (differs (c .before .same-numbers .result) (c .if1 .taken) (c .before .same-numbers .ensures .1 (e .1 .1 .1 .0))))
+    ((λ e. absurd (no-row e)), λ e. absurd (differs (c .before .same-numbers .result) (c .if1 .taken) (c .before .same-numbers .ensures .1 (e .1 .1 .1 .0))))
 
 -- src/compare.rt:54:9
 same-numbers-requires-2 : tie.Need-same-numbers-requires-2
@@ -35,7 +52,7 @@ same-numbers-requires-2 c κs = search needs
 -- src/compare.rt:55:9
 returns-2 : tie.Need-returns-2
 returns-2 c =
-    ((λ e. absurd (let z : _≡_ {A = ℕ} 0 1 = cc in omega arith)), λ e. absurd (differs (c .before .same-numbers2 .result) (c .if2 .taken) (c .before .same-numbers2 .ensures .1 (e .0))))
+    ((λ e. absurd (no-cells e)), λ e. absurd (differs (c .before .same-numbers2 .result) (c .if2 .taken) (c .before .same-numbers2 .ensures .1 (e .0))))
 
 -- src/compare.rt:57:9
 same-requires : tie.Need-same-requires
@@ -44,7 +61,7 @@ same-requires c κs = search needs
 -- src/compare.rt:58:9
 returns-3 : tie.Need-returns-3
 returns-3 c =
-    ((λ e. absurd (let z : _≡_ {A = ℕ} 0 1 = cc in omega arith)), λ e. absurd (differs (c .before .same .result) (c .if3 .taken) (c .before .same .ensures .1 (e .1 .0))))
+    ((λ e. absurd (no-queue e)), λ e. absurd (differs (c .before .same .result) (c .if3 .taken) (c .before .same .ensures .1 (e .1 .0))))
 
 -- src/compare.rt:60:9
 same-requires-2 : tie.Need-same-requires-2
@@ -53,7 +70,7 @@ same-requires-2 c κs = search needs
 -- src/compare.rt:61:9
 returns-4 : tie.Need-returns-4
 returns-4 c =
-    ((λ e. absurd (let z : _≡_ {A = ℕ} 0 1 = cc in omega arith)), λ e. absurd (differs (c .before .same2 .result) (c .if4 .taken) (c .before .same2 .ensures .1 (e .1 .1 .0))))
+    ((λ e. absurd (no-output e)), λ e. absurd (differs (c .before .same2 .result) (c .if4 .taken) (c .before .same2 .ensures .1 (e .1 .1 .0))))
 
 -- src/compare.rt:63:9
 same-requires-3 : tie.Need-same-requires-3
@@ -62,7 +79,7 @@ same-requires-3 c κs = search needs
 -- src/compare.rt:64:9
 returns-5 : tie.Need-returns-5
 returns-5 c =
-    ((λ e. absurd (let z : _≡_ {A = ℕ} 0 1 = cc in omega arith)), λ e. absurd (differs (c .before .same3 .result) (c .if5 .taken) (c .before .same3 .ensures .1 (e .1 .1 .1 .1))))
+    ((λ e. absurd (no-buffer e)), λ e. absurd (differs (c .before .same3 .result) (c .if5 .taken) (c .before .same3 .ensures .1 (e .1 .1 .1 .1))))
 
 -- src/compare.rt:37:1
 returns-6 : tie.Need-returns-6

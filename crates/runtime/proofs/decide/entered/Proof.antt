@@ -16,7 +16,7 @@ add-t7 c = search needs
 
 -- src/decide.rt:56:1
 returns : tie.Need-returns
-returns c = cc (back (c .before .before .before .before .before .before .args .a .s .sr) (c .struct-told .given .1 .1 .1 .1 .0 .1))
+returns c = rw (back (c .before .before .before .before .before .before .args .a .s .sr) (c .struct-told .given .1 .1 .1 .1 .0 .1), c .before .before .entered-registers .ensures)
 
 pub entered-spec : {M : Type 1} → statement M
 entered-spec = tie.close (tie.spec entered-registers-requires add-t7 returns)

@@ -14,7 +14,7 @@ entered-sr-requires c κs = search needs
 -- src/entry.rt:34:1
 returns : tie.Need-returns
 unfolding enteredRegisters
-returns c = cc (back (c .before .before .args .s .sr) (c .before .struct-told .given .1 .1 .1 .1 .0 .1), back (c .entered-sr .result) (c .entered-sr .ok))
+returns c = rw (c .entered-sr .ensures, back (c .before .before .args .s .sr) (c .before .struct-told .given .1 .1 .1 .1 .0 .1))
 
 pub entered-registers-spec : {M : Type 1} → statement M
 entered-registers-spec = tie.close (tie.spec entered-sr-requires returns)

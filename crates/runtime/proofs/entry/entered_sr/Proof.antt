@@ -19,11 +19,11 @@ put-bit-requires-2 c κs = search needs
 
 -- src/entry.rt:22:1
 returns : tie.Need-returns
-returns c = cc (sr-zero (c .before .before .before .args .code) (c .before .before .before .args .sr) (c .before .if1 .taken), toZ-ofZ (c .before .before .before .fits .sr), back (c .before .before .put-bit .result) (c .before .before .put-bit .ok), back (c .put-bit2 .result) (c .put-bit2 .ok))
+returns c = rw (back (c .put-bit2 .result) (c .put-bit2 .ok), c .put-bit2 .ensures, back (c .before .before .put-bit .result) (c .before .before .put-bit .ok), c .before .before .put-bit .ensures, toZ-ofZ (c .before .before .before .fits .sr), sr-zero (c .before .before .before .args .code) (c .before .before .before .args .sr) (c .before .if1 .taken))
 
 -- src/entry.rt:22:1
 returns-2 : tie.Need-returns-2
-returns-2 c = cc (sr-suc (c .before .before .args .code) (c .before .before .args .sr) (c .if1 .left), toZ-ofZ (c .before .before .fits .sr), back (c .before .put-bit .result) (c .before .put-bit .ok))
+returns-2 c = rw (back (c .before .put-bit .result) (c .before .put-bit .ok), c .before .put-bit .ensures, toZ-ofZ (c .before .before .fits .sr), sr-suc (c .before .before .args .code) (c .before .before .args .sr) (c .if1 .left))
 
 pub entered-sr-spec : {M : Type 1} → statement M
 entered-sr-spec = tie.close (tie.spec put-bit-requires put-bit-requires-2 returns returns-2)

@@ -42,7 +42,7 @@ same-length c = search needs
 -- src/entry.rt:44:1
 returns : tie.Need-returns
 unfolding saved
-returns c = cc (toZ-ofZ (c .before .before .before .before .before .before .before .before .before .before .before .before .fits .sr))
+returns c = rw (c .before .put-cell3 .ensures, c .before .before .address-cell2 .ensures, c .before .before .before .before .before .put-cell2 .ensures, c .before .before .before .before .before .before .word-cell .ensures, c .before .before .before .before .before .before .before .before .before .put-cell .ensures, c .before .before .before .before .before .before .before .before .before .before .address-cell .ensures, toZ-ofZ (c .before .before .before .before .before .before .before .before .before .before .before .before .fits .sr))
 
 pub save-spec : {M : Type 1} → statement M
 save-spec =
