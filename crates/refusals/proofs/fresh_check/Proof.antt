@@ -8,7 +8,7 @@ use lib.ListN.{length}
 use borrow.Author.Needs.{needs}
 use Rattle.definition.specs.declared.Done.{Done}
 use Rattle.definition.specs.Calls.{accepted, verdict, freshCheck, cellsTest, lengthTest}
-use Rattle.refusals.specs.Refusals.{refused}
+use Rattle.checks.specs.Refusals.{refused}
 use Rattle.refusals.proofs.fresh_check.Statement.{statement}
 use Rattle.refusals.proofs.fresh_check.Tie as tie
 
