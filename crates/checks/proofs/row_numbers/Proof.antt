@@ -1,9 +1,7 @@
 -- `refusals::row_numbers` meets its contract.
 use native.Mathlib.Omega.{arith}
 use borrow.Author.Needs.{needs}
-use lib.ListN.{drop}
-use Rattle.definition.specs.Calls.{rowTests}
-use Rattle.checks.proofs.Verdict.{check-on}
+use Rattle.definition.specs.Calls.{verdict, rowTests}
 use Rattle.checks.proofs.row_numbers.Statement.{statement}
 use Rattle.checks.proofs.row_numbers.Tie as tie
 
@@ -41,14 +39,8 @@ check-requires-5 : tie.Need-check-requires-5
 check-requires-5 c κs = search needs
 
 returns : tie.Need-returns
-unfolding rowTests
-returns c = let a = c .before .before .before .before .before .before .before .before .before .before .before .args in
-    let all = rowTests (a .q) (a .o) (a .row .now) in
-    check-on 4 1 (drop 2 all) (c .check5 .ensures) (c .before .sound-at2 .ensures)
-    (check-on 4 4 (drop 3 all) (c .before .before .check4 .ensures) (c .before .before .before .sound-at .ensures)
-    (check-on 4 7 (drop 4 all) (c .before .before .before .before .check3 .ensures) (c .before .before .before .before .before .address-at2 .ensures)
-    (check-on 4 8 (drop 5 all) (c .before .before .before .before .before .before .check2 .ensures) (c .before .before .before .before .before .before .before .address-at .ensures)
-    (check-on 4 10 (drop 6 all) (c .before .before .before .before .before .before .before .before .check .ensures) (c .before .before .before .before .before .before .before .before .before .before .below-at .ensures) (c .before .before .before .before .before .before .before .before .before .console-numbers .ensures)))))
+unfolding verdict rowTests
+returns c = rw (c .check5 .ensures, c .before .sound-at2 .ensures, c .before .before .check4 .ensures, c .before .before .before .sound-at .ensures, c .before .before .before .before .check3 .ensures, c .before .before .before .before .before .address-at2 .ensures, c .before .before .before .before .before .before .check2 .ensures, c .before .before .before .before .before .before .before .address-at .ensures, c .before .before .before .before .before .before .before .before .check .ensures, c .before .before .before .before .before .before .before .before .before .before .below-at .ensures, c .before .before .before .before .before .before .before .before .before .console-numbers .ensures)
 
 pub row-numbers-spec : {M : Type 1} → statement M
 row-numbers-spec =

@@ -19,7 +19,7 @@ word-cell-requires c κs = search needs
 
 -- src/lib.rt:102:1
 returns : tie.Need-returns
-returns c = let n = c .before .args .n in let h : n < 2 ^ 63 = omega arith in rw (c .word-cell .ensures, toZ-pos w64 h)
+returns c = let n = c .before .args .n in let h : n < 2 ^ 63 = omega arith in cc (toZ-pos w64 h)
 
 pub address-cell-spec : {M : Type 1} → statement M
 address-cell-spec = tie.close (tie.spec cast-word-cell word-cell-requires returns)

@@ -14,7 +14,7 @@ lt-requires c κs = search needs
 -- src/lib.rt:90:1
 returns : tie.Need-returns
 unfolding isInstruction
-returns c = let v = c .before .before .args .v in rw (c .lt .ensures, back (v .tag) (c .before .struct-told .given .0 .1))
+returns c = let v = c .before .before .args .v in cc (back (v .tag) (c .before .struct-told .given .0 .1))
 
 pub is-instruction-spec : {M : Type 1} → statement M
 is-instruction-spec = tie.close (tie.spec lt-requires returns)

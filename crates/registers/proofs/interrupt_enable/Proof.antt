@@ -14,7 +14,7 @@ test-bit-requires c κs = search needs
 -- src/lib.rt:39:1
 returns : tie.Need-returns
 unfolding interruptEnable
-returns c = rw (c .test-bit .ensures, back (c .before .before .args .s .sr) (c .before .struct-told .given .1 .1 .1 .1 .0 .1))
+returns c = cc (back (c .before .before .args .s .sr) (c .before .struct-told .given .1 .1 .1 .1 .0 .1))
 
 pub interrupt-enable-spec : {M : Type 1} → statement M
 interrupt-enable-spec = tie.close (tie.spec test-bit-requires returns)

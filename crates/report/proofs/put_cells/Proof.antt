@@ -1,12 +1,30 @@
-use mathlib.Core.List.{[], _∷_, _++_}
+use mathlib.Core.Path.{_≡_}
+use mathlib.Core.List.{List, [], _∷_, _++_}
+use Prim.Native.Nat.{ℕ, _+_}
 use native.Mathlib.Omega.{arith}
-use lib.ListN.{take, length-append}
+use lib.ListN.{length, take, drop, length-append}
+use lib.IntN.{ℤ}
 use Rattle.definition.specs.Calls.{at}
 use Rattle.report.specs.Text.{line, cellsText, aName, bName, outName}
 use Rattle.report.proofs.Laws.{put-then, one-of, three-of}
 use borrow.Author.Needs.{needs}
 use Rattle.report.proofs.put_cells.Statement.{statement}
 use Rattle.report.proofs.put_cells.Tie as tie
+
+-- Over plain values, where `omega` has little to read: the three parts of a row,
+module _ (w : List ℤ) (k : length w ≡ 16) where
+  a-of : take 3 (drop 0 w) ≡ at 1 w ∷ at 2 w ∷ at 3 w ∷ []
+  a-of = three-of w 0 (omega arith)
+
+  b-of : take 3 (drop 3 w) ≡ at 4 w ∷ at 5 w ∷ at 6 w ∷ []
+  b-of = three-of w 3 (omega arith)
+
+  out-of : take 1 (drop 15 w) ≡ at 16 w ∷ []
+  out-of = one-of w 15 (omega arith)
+
+-- and what three lines add to the count.
+count : (n : ℕ) (x y z : List ℕ) {i j r : ℕ} → i ≡ n + length x → j ≡ i + length y → r ≡ j + length z → r ≡ n + length (x ++ (y ++ z))
+count n x y z e f g = simp length-append (omega arith)
 
 slice-aggregate-put-line : tie.Need-slice-aggregate-put-line
 slice-aggregate-put-line c = search needs
@@ -22,8 +40,10 @@ part-put-line-end c = search needs
 
 put-line-requires : tie.Need-put-line-requires
 unfolding cellsText
-put-line-requires c κs = let w = c .before .before .before .before .args .row .now in
-    rw (three-of w 0 (omega arith)) (omega (arith, simp length-append at (c .before .before .before .before .pre .1)))
+put-line-requires c κs = let s = c .before .before .before .before in
+    let w = s .args .row .now in
+    let k = s .pre .0 in
+    rw (a-of w k) (omega (arith, simp length-append at (s .pre .1)))
 
 slice-aggregate-put-line-2 : tie.Need-slice-aggregate-put-line-2
 slice-aggregate-put-line-2 c = search needs
@@ -39,8 +59,10 @@ part-put-line-end-2 c = search needs
 
 put-line-requires-2 : tie.Need-put-line-requires-2
 unfolding cellsText
-put-line-requires-2 c κs = let w = c .before .before .before .before .before .before .before .before .before .before .args .row .now in
-    rw (three-of w 3 (omega arith)) (omega (arith, rw (three-of w 0 (omega arith)) at (c .before .before .before .before .before .put-line .ensures .1), simp length-append at (c .before .before .before .before .before .before .before .before .before .before .pre .1)))
+put-line-requires-2 c κs = let s = c .before .before .before .before .before .before .before .before .before .before in
+    let w = s .args .row .now in
+    let k = s .pre .0 in
+    rw (b-of w k) (omega (arith, rw (a-of w k) at (c .before .before .before .before .before .put-line .ensures .1), simp length-append at (s .pre .1)))
 
 slice-aggregate-put-line-3 : tie.Need-slice-aggregate-put-line-3
 slice-aggregate-put-line-3 c = search needs
@@ -56,21 +78,28 @@ part-put-line-end-3 c = search needs
 
 put-line-requires-3 : tie.Need-put-line-requires-3
 unfolding cellsText
-put-line-requires-3 c κs = let w = c .before .before .before .before .before .before .before .before .before .before .before .before .before .before .before .before .args .row .now in
-    rw (one-of w 15 (omega arith)) (omega (arith, rw (three-of w 0 (omega arith)) at (c .before .before .before .before .before .before .before .before .before .before .before .put-line .ensures .1), rw (three-of w 3 (omega arith)) at (c .before .before .before .before .before .put-line2 .ensures .1), simp length-append at (c .before .before .before .before .before .before .before .before .before .before .before .before .before .before .before .before .pre .1)))
+put-line-requires-3 c κs = let s = c .before .before .before .before .before .before .before .before .before .before .before .before .before .before .before .before in
+    let w = s .args .row .now in
+    let k = s .pre .0 in
+    rw (out-of w k) (omega (arith, rw (a-of w k) at (c .before .before .before .before .before .before .before .before .before .before .before .put-line .ensures .1), rw (b-of w k) at (c .before .before .before .before .before .put-line2 .ensures .1), simp length-append at (s .pre .1)))
 
 same-length : tie.Need-same-length
 same-length c = search needs
 
 returns : tie.Need-returns
 unfolding cellsText
-returns c = let a = c .before .before .before .before .before .before .before .before .before .before .before .before .before .before .before .before .before .before .before .args in let w = a .row .now in
-    let e = rw (three-of w 0 (omega arith)) at (c .before .before .before .before .before .before .before .before .before .before .before .before .before .before .put-line .ensures) in
-    let f = rw (three-of w 3 (omega arith)) at (c .before .before .before .before .before .before .before .before .put-line2 .ensures) in
-    let g = rw (one-of w 15 (omega arith)) at (c .before .before .put-line3 .ensures) in
+returns c = let s = c .before .before .before .before .before .before .before .before .before .before .before .before .before .before .before .before .before .before .before in
+    let a = s .args in
+    let w = a .row .now in
+    let k = s .pre .0 in
+    let p = c .before .before .before .before .before .before .before .before .before .before .before .before .before .before .put-line in
+    let e = rw (a-of w k) at (p .ensures) in
+    let f = rw (b-of w k) at (c .before .before .before .before .before .before .before .before .put-line2 .ensures) in
+    let g = rw (out-of w k) at (c .before .before .put-line3 .ensures) in
+    let t = line aName (at 1 w ∷ at 2 w ∷ at 3 w ∷ []) in
     let u = line bName (at 4 w ∷ at 5 w ∷ at 6 w ∷ []) in
     let v = line outName (at 16 w ∷ []) in
-    (put-then (take (a .at) (a .out .now)) (line aName (at 1 w ∷ at 2 w ∷ at 3 w ∷ [])) (u ++ v) (e .0) (put-then (take (c .before .before .before .before .before .before .before .before .before .before .before .before .before .before .put-line .result) (c .before .before .before .before .before .before .before .before .before .before .before .before .before .before .put-line .last .0)) u v (f .0) (g .0)), simp length-append (omega arith))
+    (put-then (take (a .at) (a .out .now)) t (u ++ v) (e .0) (put-then (take (p .result) (p .last .0)) u v (f .0) (g .0)), count (a .at) t u v (e .1) (f .1) (g .1))
 
 pub put-cells-spec : {M : Type 1} → statement M
 put-cells-spec =

@@ -28,7 +28,7 @@ same-length c = search needs
 
 returns : tie.Need-returns
 returns c = let p = c .before .before .before .pre .1 in
-    rw (toZ-pos w64 (p .0), toZ-pos w64 (p .1 .0), toZ-pos w64 (p .1 .1))
+    cc (toZ-pos w64 (p .0), toZ-pos w64 (p .1 .0), toZ-pos w64 (p .1 .1))
 
 pub put-console-spec : {M : Type 1} → statement M
 put-console-spec =
