@@ -1,9 +1,13 @@
 -- `refusals::deliver_check` meets its contract.
-use mathlib.Core.Path.{_∙_, sym}
+use mathlib.Core.Path.{_≡_, _∙_, sym}
+use mathlib.Core.Bool.{cond}
+use Prim.Native.Nat.{_-_}
 use native.Mathlib.Omega.{arith}
+use lib.Dec.{leb}
 use lib.ListN.{length}
 use borrow.Author.Needs.{needs}
 use Rattle.definition.specs.Calls.{deliverCheck, queueTest, numberOfRow}
+use Rattle.checks.specs.Refusals.{refused}
 use Rattle.checks.proofs.Verdict.{row-passed, row-refused, row-accepted, passed-by, refused-by, first-passed, first-refused, check-by, accept-by, room, queue-lengths}
 use Rattle.refusals.proofs.deliver_check.Statement.{statement}
 use Rattle.refusals.proofs.deliver_check.Tie as tie
@@ -36,7 +40,8 @@ returns c = let a = c .before .before .before .before .before .before .before .b
     let q = length (a .queue .now) in
     let f = row-accepted q 65536 (a .row .now) (c .before .before .before .before .before .row-check .ensures) (c .before .before .before .if2 .taken) in
     let e = room (numberOfRow 15 (a .row .now)) (length (a .bytes .now)) q (omega (arith, f .count .1)) in
-    check-by 6 0 _ _ (rw (c .before .before .number-at .ensures, e) at (c .check .ensures)) (accept-by (c .before .accept .ensures))
+    let h : c .check .result ≡ cond (leb (length (a .bytes .now)) (q - c .before .before .number-at .result)) (c .before .accept .result) (refused 6 0) = c .check .ensures in
+    check-by 6 0 _ _ (rw (c .before .before .number-at .ensures, e) at h) (accept-by (c .before .accept .ensures))
     ∙ row-passed q 65536 (a .row .now) _ (passed-by (c .before .before .before .before .before .row-check .ensures) (c .before .before .before .if2 .taken))
     ∙ first-passed (queueTest (a .queue .now)) _ (sym (c .before .before .before .before .before .before .before .queue-fits .ensures) ∙ c .before .before .before .before .before .before .if1 .taken)
 

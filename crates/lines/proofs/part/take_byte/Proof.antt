@@ -1,3 +1,6 @@
+use mathlib.Core.Path.{_≡_}
+use mathlib.Core.Bool.{true, false}
+use lib.Dec.{eqb}
 use borrow.Author.Tests.{eq-eqb, ne-eqb}
 use Rattle.lines.specs.Reader.{step}
 use borrow.Author.Needs.{needs}
@@ -19,7 +22,9 @@ same-length c = search needs
 -- src/part.rt:16:9
 returns : tie.Need-returns
 unfolding step
-returns c = simp (eq-eqb _ _ (c .before .before .before .if1 .taken)) (c .before .take-line-end .ensures)
+returns c = let b = c .before .before .before .before .args .b in
+    let t : eqb b 10 ≡ true = eq-eqb b 10 (c .before .before .before .if1 .taken) in
+    simp t (c .before .take-line-end .ensures)
 
 -- src/part.rt:18:5
 take-within-requires : tie.Need-take-within-requires
@@ -28,7 +33,9 @@ take-within-requires c κs = search needs
 -- src/part.rt:11:1
 returns-2 : tie.Need-returns-2
 unfolding step
-returns-2 c = rw (ne-eqb _ _ (c .before .if1 .left), c .take-within .ensures)
+returns-2 c = let b = c .before .before .args .b in
+    let t : eqb b 10 ≡ false = ne-eqb b 10 (c .before .if1 .left) in
+    rw (t, c .take-within .ensures)
 
 pub take-byte-spec : {M : Type 1} → statement M
 take-byte-spec =
