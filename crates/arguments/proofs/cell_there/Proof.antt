@@ -8,24 +8,19 @@ use Rattle.arguments.proofs.cell_there.Reads as reads
 use Rattle.arguments.proofs.cell_there.Lts as lts
 use Rattle.memory.proofs.get.Reads as get-reads
 
--- src/lib.rt:64:21
 enum-known-n : tie.Need-enum-known-n
 enum-known-n c = search needs
 
--- src/lib.rt:64:27
 get-requires : tie.Need-get-requires
 get-requires c κs = search needs
 
--- src/lib.rt:65:32
 enum-told : tie.Need-enum-told
 enum-told c = search needs
 
--- src/lib.rt:60:1
 returns : tie.Need-returns
 unfolding cellThere
 returns c = c .get .ensures ∙ ap (λ (n : Address). cellThere n (c .before .before .before .before .args .cells .now)) (sym (c .before .before .n .given .1))
 
--- src/lib.rt:60:1
 returns-2 : tie.Need-returns-2
 unfolding cellThere
 returns-2 c = ap (λ (n : Address). cellThere n (c .before .before .args .cells .now)) (sym (c .enum-told .given .1))

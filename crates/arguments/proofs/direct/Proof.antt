@@ -6,11 +6,9 @@ use Rattle.arguments.proofs.direct.Reads as reads
 use Rattle.arguments.proofs.direct.Lts as lts
 use Rattle.word.proofs.to_address.Reads as to-address-reads
 
--- src/lib.rt:24:5
 to-address-requires : tie.Need-to-address-requires
 to-address-requires c κs = search needs
 
--- src/lib.rt:21:1
 returns : tie.Need-returns
 returns c = rw (toZ-ofZ (c .before .fits .number)) at (c .to-address .ensures)
 

@@ -16,29 +16,23 @@ use Rattle.arguments.proofs.cell_there.Reads as cell-there-reads
 use Rattle.arguments.proofs.resolve.Reads as resolve-reads
 use Rattle.memory.proofs.word_cell.Reads as word-cell-reads
 
--- src/lib.rt:84:26
 word-cell-requires : tie.Need-word-cell-requires
 word-cell-requires c κs = search needs
 
--- src/lib.rt:86:32
 resolve-requires : tie.Need-resolve-requires
 resolve-requires c κs = search needs
 
--- src/lib.rt:86:14
 cell-there-requires : tie.Need-cell-there-requires
 cell-there-requires c κs = search needs
 
--- src/lib.rt:80:1
 returns : tie.Need-returns
 unfolding extractBy operand extractCell
 returns c = let a = c .before .before .args in ap Here (rw (toZ-ofZ (c .before .before .fits .number)) at (c .word-cell .ensures)) ∙ ap (λ (m : ℕ). extractBy m (a .rc) (a .number) (a .cells .now)) (sym (c .before .match .keys1))
 
--- src/lib.rt:80:1
 returns-2 : tie.Need-returns-2
 unfolding extractBy operand extractCell regAt getReg
 returns-2 c = let a = c .before .args in ap (λ (m : ℕ). extractBy m (a .rc) (a .number) (a .cells .now)) (sym (c .match .keys2))
 
--- src/lib.rt:80:1
 returns-3 : tie.Need-returns-3
 returns-3 c = let a = c .before .before .before .args in let n = c .before .before .match .rest in c .cell-there .ensures ∙ ap (λ (x : Address). cellThere x (a .cells .now)) (rw (toZ-ofZ (c .before .before .before .fits .number)) at (c .before .resolve .ensures)) ∙ extract-else (a .rc) (a .number) (a .cells .now) (a .mode) (n .0 .1) (n .1)
 

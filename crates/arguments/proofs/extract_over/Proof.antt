@@ -17,29 +17,23 @@ use Rattle.arguments.proofs.resolve.Reads as resolve-reads
 use Rattle.arguments.proofs.there_over.Reads as there-over-reads
 use Rattle.memory.proofs.word_cell.Reads as word-cell-reads
 
--- src/lib.rt:95:26
 word-cell-requires : tie.Need-word-cell-requires
 word-cell-requires c κs = search needs
 
--- src/lib.rt:97:39
 resolve-requires : tie.Need-resolve-requires
 resolve-requires c κs = search needs
 
--- src/lib.rt:97:14
 there-over-requires : tie.Need-there-over-requires
 there-over-requires c κs = search needs
 
--- src/lib.rt:91:1
 returns : tie.Need-returns
 unfolding extractBy operand extractCell
 returns c = let a = c .before .before .args in let l = overlay (a .at) (a .v) (a .cells .now) in ap Here (rw (toZ-ofZ (c .before .before .fits .number)) at (c .word-cell .ensures)) ∙ ap (λ (m : ℕ). extractBy m (a .rc) (a .number) l) (sym (c .before .match .keys1))
 
--- src/lib.rt:91:1
 returns-2 : tie.Need-returns-2
 unfolding extractBy operand extractCell regAt getReg
 returns-2 c = let a = c .before .args in let l = overlay (a .at) (a .v) (a .cells .now) in ap (λ (m : ℕ). extractBy m (a .rc) (a .number) l) (sym (c .match .keys2))
 
--- src/lib.rt:91:1
 returns-3 : tie.Need-returns-3
 returns-3 c = let a = c .before .before .before .args in let l = overlay (a .at) (a .v) (a .cells .now) in let n = c .before .before .match .rest in c .there-over .ensures ∙ ap (λ (x : Address). cellThere x l) (rw (toZ-ofZ (c .before .before .before .fits .number)) at (c .before .resolve .ensures)) ∙ extract-else (a .rc) (a .number) l (a .mode) (n .0 .1) (n .1)
 

@@ -15,34 +15,27 @@ use Rattle.memory.proofs.extract_word.Reads as extract-word-reads
 use Rattle.word.proofs.add.Reads as add-reads
 use Rattle.word.proofs.to_address.Reads as to-address-reads
 
--- src/lib.rt:38:11
 extract-word-requires : tie.Need-extract-word-requires
 extract-word-requires c κs = search needs
 
--- src/lib.rt:39:18
 enum-known-w : tie.Need-enum-known-w
 enum-known-w c = search needs
 
--- src/lib.rt:40:17
 add-requires : tie.Need-add-requires
 add-requires c κs = search needs
 
--- src/lib.rt:41:13
 to-address-requires : tie.Need-to-address-requires
 to-address-requires c κs = search needs
 
--- src/lib.rt:43:26
 enum-told : tie.Need-enum-told
 enum-told c = search needs
 
--- src/lib.rt:35:1
 returns : tie.Need-returns
 unfolding indexed wrapped
 returns c = let a = c .before .before .before .before .before .before .before .args in let w = c .before .before .before .before .w .given .0 .0 in let x = c .before .before .add .result .value in
     let e : x ≡ wrap (w +ℤ a .number) = ap (λ (y : Wrapped). y .value) (rw (back w (c .before .before .before .known-told .given .0 .1), toZ-ofZ (c .before .before .before .before .before .before .before .fits .number)) at (c .before .before .add .ensures)) in
     rw (back x (c .before .struct-told .given .0 .1)) at (c .to-address .ensures) ∙ ap addressOf e ∙ ap (λ (y : Word). indexed y (a .number)) (sym (c .before .before .before .before .w .given .1) ∙ c .before .before .before .before .before .before .extract-word .ensures)
 
--- src/lib.rt:35:1
 returns-2 : tie.Need-returns-2
 unfolding indexed
 returns-2 c = ap (λ (y : Word). indexed y (c .before .before .before .args .number)) (sym (c .enum-told .given .1) ∙ c .before .before .extract-word .ensures)

@@ -14,34 +14,27 @@ use Rattle.arguments.proofs.direct.Reads as direct-reads
 use Rattle.arguments.proofs.indexed.Reads as indexed-reads
 use Rattle.arguments.proofs.indirect.Reads as indirect-reads
 
--- src/lib.rt:52:14
 direct-requires : tie.Need-direct-requires
 direct-requires c κs = search needs
 
--- src/lib.rt:53:14
 indirect-requires : tie.Need-indirect-requires
 indirect-requires c κs = search needs
 
--- src/lib.rt:54:14
 indexed-requires : tie.Need-indexed-requires
 indexed-requires c κs = search needs
 
--- src/lib.rt:48:1
 returns : tie.Need-returns
 unfolding resolveBy operand resolve
 returns c = let a = c .before .before .args in rw (toZ-ofZ (c .before .before .fits .number)) at (c .direct .ensures) ∙ ap (λ (m : ℕ). resolveBy m (a .rc) (a .number)) (sym (c .before .match .keys1))
 
--- src/lib.rt:48:1
 returns-2 : tie.Need-returns-2
 unfolding resolveBy operand resolve regAt getReg
 returns-2 c = let a = c .before .before .args in c .indirect .ensures ∙ ap (λ (m : ℕ). resolveBy m (a .rc) (a .number)) (sym (c .before .match .keys2))
 
--- src/lib.rt:48:1
 returns-3 : tie.Need-returns-3
 unfolding resolveBy operand resolve regAt getReg
 returns-3 c = let a = c .before .before .args in rw (toZ-ofZ (c .before .before .fits .number)) at (c .indexed .ensures) ∙ ap (λ (m : ℕ). resolveBy m (a .rc) (a .number)) (sym (c .before .match .keys3))
 
--- src/lib.rt:48:1
 returns-4 : tie.Need-returns-4
 returns-4 c = let a = c .before .args in let n = c .match .rest in resolve-else (a .rc) (a .number) (a .mode) (n .0 .0 .1) (n .0 .1) (n .1)
 

@@ -9,24 +9,19 @@ use Rattle.arguments.proofs.there_over.Reads as reads
 use Rattle.arguments.proofs.there_over.Lts as lts
 use Rattle.memory.proofs.read_over.Reads as read-over-reads
 
--- src/lib.rt:74:21
 enum-known-n : tie.Need-enum-known-n
 enum-known-n c = search needs
 
--- src/lib.rt:74:27
 read-over-requires : tie.Need-read-over-requires
 read-over-requires c κs = search needs
 
--- src/lib.rt:75:32
 enum-told : tie.Need-enum-told
 enum-told c = search needs
 
--- src/lib.rt:70:1
 returns : tie.Need-returns
 unfolding cellThere
 returns c = let a = c .before .before .before .before .args in c .read-over .ensures ∙ ap (λ (n : Address). cellThere n (overlay (a .at) (a .v) (a .cells .now))) (sym (c .before .before .n .given .1))
 
--- src/lib.rt:70:1
 returns-2 : tie.Need-returns-2
 unfolding cellThere
 returns-2 c = let a = c .before .before .args in ap (λ (n : Address). cellThere n (overlay (a .at) (a .v) (a .cells .now))) (sym (c .enum-told .given .1))

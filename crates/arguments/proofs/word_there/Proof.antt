@@ -7,24 +7,19 @@ use Rattle.arguments.proofs.word_there.Reads as reads
 use Rattle.arguments.proofs.word_there.Lts as lts
 use Rattle.memory.proofs.extract_word.Reads as extract-word-reads
 
--- src/lib.rt:105:21
 enum-known-x : tie.Need-enum-known-x
 enum-known-x c = search needs
 
--- src/lib.rt:105:27
 extract-word-requires : tie.Need-extract-word-requires
 extract-word-requires c κs = search needs
 
--- src/lib.rt:106:27
 enum-told : tie.Need-enum-told
 enum-told c = search needs
 
--- src/lib.rt:101:1
 returns : tie.Need-returns
 unfolding wordThere
 returns c = c .extract-word .ensures ∙ ap wordThere (sym (c .before .before .x .given .1))
 
--- src/lib.rt:101:1
 returns-2 : tie.Need-returns-2
 unfolding wordThere
 returns-2 c = ap wordThere (sym (c .enum-told .given .1))

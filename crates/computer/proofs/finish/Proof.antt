@@ -12,35 +12,27 @@ use Rattle.runtime.proofs.commit.send.Reads as send-reads
 use Rattle.runtime.proofs.decide.decide.Reads as decide-reads
 use Rattle.runtime.proofs.entry.write_over.Reads as write-over-reads
 
--- src/lib.rt:83:9
 conclude-requires : tie.Need-conclude-requires
 conclude-requires c κs = search needs
 
--- src/lib.rt:84:9
 decide-requires : tie.Need-decide-requires
 decide-requires c κs = search needs
 
--- src/lib.rt:87:5
 write-over-requires : tie.Need-write-over-requires
 write-over-requires c κs = search needs
 
--- src/lib.rt:88:5
 save-entry-requires : tie.Need-save-entry-requires
 save-entry-requires c κs = search needs
 
--- src/lib.rt:89:5
 send-requires : tie.Need-send-requires
 send-requires c κs = let a = c .before .before .before .before .before .before .before .before .before .before .before .before .before .before .args in let x = c .before .before .before .before .before .before .before .before .before .before .before .before .conclude in let d = c .before .before .before .before .before .before .before .before .before .before .decide in sends-in (a .cells .now) _ (a .saved) (a .e) (a .cost) (a .cycles) (x .result) (d .result) (x .ensures) (d .ensures) (c .before .before .before .before .before .before .before .before .before .before .before .before .before .before .pre .1 .1)
 
--- src/lib.rt:72:1
 same-length : tie.Need-same-length
 same-length c = search needs
 
--- src/lib.rt:72:1
 same-length-2 : tie.Need-same-length-2
 same-length-2 c = search needs
 
--- src/lib.rt:72:1
 returns : tie.Need-returns
 returns c = λ q. let a = c .before .before .before .before .before .before .before .before .before .before .before .before .before .before .before .before .before .args in let x = c .before .before .before .before .before .before .before .before .before .before .before .before .before .before .before .conclude in let d = c .before .before .before .before .before .before .before .before .before .before .before .before .before .decide in rw (c .before .before .send .ensures, rw (back (d .result .sr) (c .before .before .before .before .before .before .struct-told .given .1 .1 .1 .1 .1 .1 .1 .1 .1 .1 .0 .1)) at (c .before .before .before .before .before .save-entry .ensures), c .before .before .before .before .before .before .before .before .before .write-over .ensures) (finish-is (a .cells .now) q (a .output .now) (a .saved) (a .e) (a .cost) (a .cycles) (x .result) (d .result) (x .ensures) (d .ensures))
 

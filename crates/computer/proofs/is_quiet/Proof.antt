@@ -8,11 +8,9 @@ use Rattle.computer.proofs.is_quiet.Tie as tie
 use Rattle.computer.proofs.is_quiet.Reads as reads
 use Rattle.computer.proofs.is_quiet.Lts as lts
 
--- src/lib.rt:41:9
 returns : tie.Need-returns
 returns c = let a = c .before .before .args in sym (ap (λ (b : Bool). not b && ltb (a .cycles) NEAR) (c .if1 .taken))
 
--- src/lib.rt:36:1
 returns-2 : tie.Need-returns-2
 returns-2 c = let a = c .before .before .args in sym (ap (λ (b : Bool). not b && ltb (a .cycles) NEAR) (c .if1 .left))
 

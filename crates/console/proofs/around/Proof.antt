@@ -5,12 +5,10 @@ use Rattle.console.proofs.around.Tie as tie
 use Rattle.console.proofs.around.Reads as reads
 use Rattle.console.proofs.around.Lts as lts
 
--- src/lib.rt:101:1
 returns : tie.Need-returns
 unfolding around
 returns c = rw (lt-ltb _ _ (c .if1 .taken))
 
--- src/lib.rt:101:1
 returns-2 : tie.Need-returns-2
 unfolding around
 returns-2 c = rw (le-ltb _ _ (c .if1 .left))

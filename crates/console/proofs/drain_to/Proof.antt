@@ -17,36 +17,28 @@ Inv-loop buffer₀ output n i₀ buffer i = (i ≤ n) × ((length buffer ≡ len
 abbrev μ-loop : tie.MeasureT-loop
 μ-loop buffer₀ output n i₀ buffer i = n - i
 
--- src/lib.rt:217:5
 loop-holds : tie.Need-loop-holds Inv-loop μ-loop
 loop-holds c = (search needs, (refl, refl))
 
--- src/lib.rt:218:21
 shared-slice-read-buffer : tie.Need-shared-slice-read-buffer Inv-loop μ-loop
 shared-slice-read-buffer c = search needs
 
--- src/lib.rt:218:9
 slice-write-buffer : tie.Need-slice-write-buffer Inv-loop μ-loop
 slice-write-buffer c = search needs
 
--- src/lib.rt:219:9
 add-i : tie.Need-add-i Inv-loop μ-loop
 add-i c = search needs
 
--- src/lib.rt:217:5
 loop-less : tie.Need-loop-less Inv-loop μ-loop
 loop-less c = search needs
 
--- src/lib.rt:217:5
 loop-again : tie.Need-loop-again Inv-loop μ-loop
 loop-again c = let v = c .before .before .loop .inv in
     (search needs, (simp length-set (v .1 .0), rw (v .1 .1) (front-more (c .before .before .before .args .output .now) (c .before .before .before .args .buffer .now) 0 (c .before .before .loop .i) (omega arith) (omega arith))))
 
--- src/lib.rt:212:1
 same-length : tie.Need-same-length Inv-loop μ-loop
 same-length c = search needs
 
--- src/lib.rt:212:1
 returns : tie.Need-returns Inv-loop μ-loop
 unfolding drained
 returns c = let v = c .before .loop .inv in

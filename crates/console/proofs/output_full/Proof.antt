@@ -5,7 +5,6 @@ use Rattle.console.proofs.output_full.Tie as tie
 use Rattle.console.proofs.output_full.Reads as reads
 use Rattle.console.proofs.output_full.Lts as lts
 
--- src/lib.rt:183:1
 returns : tie.Need-returns
 unfolding outputFull
 returns c = λ queue output e. rw e

@@ -18,35 +18,27 @@ Inv-loop queue₀ at bytes p₀ i₀ queue p i = (i ≤ length bytes) × ((p < l
 abbrev μ-loop : tie.MeasureT-loop
 μ-loop queue₀ at bytes p₀ i₀ queue p i = length bytes - i
 
--- src/lib.rt:204:5
 loop-holds : tie.Need-loop-holds Inv-loop μ-loop
 loop-holds c = (search needs, (search needs, (refl, refl)))
 
--- src/lib.rt:205:20
 shared-slice-read-queue : tie.Need-shared-slice-read-queue Inv-loop μ-loop
 shared-slice-read-queue c = search needs
 
--- src/lib.rt:205:9
 slice-write-queue : tie.Need-slice-write-queue Inv-loop μ-loop
 slice-write-queue c = search needs
 
--- src/lib.rt:206:33
 add-around : tie.Need-add-around Inv-loop μ-loop
 add-around c = search needs
 
--- src/lib.rt:206:9
 around-requires : tie.Need-around-requires Inv-loop μ-loop
 around-requires c κs = search needs
 
--- src/lib.rt:207:9
 add-i : tie.Need-add-i Inv-loop μ-loop
 add-i c = search needs
 
--- src/lib.rt:204:5
 loop-less : tie.Need-loop-less Inv-loop μ-loop
 loop-less c = search needs
 
--- src/lib.rt:204:5
 loop-again : tie.Need-loop-again Inv-loop μ-loop
 loop-again c = let v = c .before .before .before .loop .inv in
     let q = c .before .before .before .loop .queue in
@@ -54,11 +46,9 @@ loop-again c = let v = c .before .before .before .loop .inv in
     let k : around (length q) (c .before .before .before .loop .p + 1) < length q = around-below (length q) (c .before .before .before .loop .p + 1) (omega arith) in
     (search needs, (simp (length-set, e) k, (simp length-set (v .1 .1 .0), rw e (put-more (c .before .before .before .loop .p) (c .before .before .before .loop .i) (c .before .before .before .before .before .before .args .bytes .now) q (search needs)) ∙ v .1 .1 .1)))
 
--- src/lib.rt:198:1
 same-length : tie.Need-same-length Inv-loop μ-loop
 same-length c = search needs
 
--- src/lib.rt:198:1
 returns : tie.Need-returns Inv-loop μ-loop
 unfolding putBytes
 returns c = let v = c .before .loop .inv in

@@ -8,28 +8,22 @@ use Rattle.console.proofs.read_data.Reads as reads
 use Rattle.console.proofs.read_data.Lts as lts
 use Rattle.console.proofs.around.Reads as around-reads
 
--- src/lib.rt:115:43
 add-around : tie.Need-add-around
 add-around c = search needs
 
--- src/lib.rt:115:9
 around-requires : tie.Need-around-requires
 around-requires c κs = search needs
 
--- src/lib.rt:116:23
 sub-after : tie.Need-sub-after
 sub-after c = search needs
 
--- src/lib.rt:118:20
 shared-slice-read-t10 : tie.Need-shared-slice-read-t10
 shared-slice-read-t10 c = search needs
 
--- src/lib.rt:108:1
 returns : tie.Need-returns
 unfolding readData inputReady
 returns c = λ output. rw (lt-ltb _ _ (c .before .before .before .if1 .taken), c .before .before .around .ensures, add-one)
 
--- src/lib.rt:108:1
 returns-2 : tie.Need-returns-2
 unfolding readData inputReady
 returns-2 c = λ output. rw (le-ltb _ _ (c .if1 .left))

@@ -42,319 +42,246 @@ use Rattle.operations.proofs.words.xor.Reads as xor-reads
 use Rattle.registers.proofs.accept.Reads as accept-reads
 use Rattle.registers.proofs.refuse.Reads as refuse-reads
 
--- src/lib.rt:63:32
 add-requires : tie.Need-add-requires
 add-requires c κs = search needs
 
--- src/lib.rt:63:14
 with-none-requires : tie.Need-with-none-requires
 with-none-requires c κs = search needs
 
--- src/lib.rt:64:32
 and-requires : tie.Need-and-requires
 and-requires c κs = search needs
 
--- src/lib.rt:64:14
 with-none-requires-2 : tie.Need-with-none-requires-2
 with-none-requires-2 c κs = search needs
 
--- src/lib.rt:65:14
 call-requires : tie.Need-call-requires
 call-requires c κs = search needs
 
--- src/lib.rt:66:32
 cmp-requires : tie.Need-cmp-requires
 cmp-requires c κs = search needs
 
--- src/lib.rt:66:14
 with-none-requires-3 : tie.Need-with-none-requires-3
 with-none-requires-3 c κs = search needs
 
--- src/lib.rt:67:32
 div-requires : tie.Need-div-requires
 div-requires c κs = search needs
 
--- src/lib.rt:67:14
 with-none-requires-4 : tie.Need-with-none-requires-4
 with-none-requires-4 c κs = search needs
 
--- src/lib.rt:68:14
 fas-requires : tie.Need-fas-requires
 fas-requires c κs = search needs
 
--- src/lib.rt:69:33
 ld-requires : tie.Need-ld-requires
 ld-requires c κs = search needs
 
--- src/lib.rt:69:15
 with-none-requires-5 : tie.Need-with-none-requires-5
 with-none-requires-5 c κs = search needs
 
--- src/lib.rt:70:33
 mul-requires : tie.Need-mul-requires
 mul-requires c κs = search needs
 
--- src/lib.rt:70:15
 with-none-requires-6 : tie.Need-with-none-requires-6
 with-none-requires-6 c κs = search needs
 
--- src/lib.rt:71:33
 neg-requires : tie.Need-neg-requires
 neg-requires c κs = search needs
 
--- src/lib.rt:71:15
 with-none-requires-7 : tie.Need-with-none-requires-7
 with-none-requires-7 c κs = search needs
 
--- src/lib.rt:72:33
 accept-requires : tie.Need-accept-requires
 accept-requires c κs = search needs
 
--- src/lib.rt:72:15
 with-none-requires-8 : tie.Need-with-none-requires-8
 with-none-requires-8 c κs = search needs
 
--- src/lib.rt:73:33
 not-requires : tie.Need-not-requires
 not-requires c κs = search needs
 
--- src/lib.rt:73:15
 with-none-requires-9 : tie.Need-with-none-requires-9
 with-none-requires-9 c κs = search needs
 
--- src/lib.rt:74:33
 or-requires : tie.Need-or-requires
 or-requires c κs = search needs
 
--- src/lib.rt:74:15
 with-none-requires-10 : tie.Need-with-none-requires-10
 with-none-requires-10 c κs = search needs
 
--- src/lib.rt:75:33
 pop-requires : tie.Need-pop-requires
 pop-requires c κs = search needs
 
--- src/lib.rt:75:15
 with-none-requires-11 : tie.Need-with-none-requires-11
 with-none-requires-11 c κs = search needs
 
--- src/lib.rt:76:15
 push-requires : tie.Need-push-requires
 push-requires c κs = search needs
 
--- src/lib.rt:77:33
 reset-requires : tie.Need-reset-requires
 reset-requires c κs = search needs
 
--- src/lib.rt:77:15
 with-none-requires-12 : tie.Need-with-none-requires-12
 with-none-requires-12 c κs = search needs
 
--- src/lib.rt:78:33
 rti-requires : tie.Need-rti-requires
 rti-requires c κs = search needs
 
--- src/lib.rt:78:15
 with-none-requires-13 : tie.Need-with-none-requires-13
 with-none-requires-13 c κs = search needs
 
--- src/lib.rt:79:33
 rtn-requires : tie.Need-rtn-requires
 rtn-requires c κs = search needs
 
--- src/lib.rt:79:15
 with-none-requires-14 : tie.Need-with-none-requires-14
 with-none-requires-14 c κs = search needs
 
--- src/lib.rt:80:33
 shl-requires : tie.Need-shl-requires
 shl-requires c κs = search needs
 
--- src/lib.rt:80:15
 with-none-requires-15 : tie.Need-with-none-requires-15
 with-none-requires-15 c κs = search needs
 
--- src/lib.rt:81:33
 shr-requires : tie.Need-shr-requires
 shr-requires c κs = search needs
 
--- src/lib.rt:81:15
 with-none-requires-16 : tie.Need-with-none-requires-16
 with-none-requires-16 c κs = search needs
 
--- src/lib.rt:82:15
 st-requires : tie.Need-st-requires
 st-requires c κs = search needs
 
--- src/lib.rt:83:33
 sub-requires : tie.Need-sub-requires
 sub-requires c κs = search needs
 
--- src/lib.rt:83:15
 with-none-requires-17 : tie.Need-with-none-requires-17
 with-none-requires-17 c κs = search needs
 
--- src/lib.rt:84:15
 swap-requires : tie.Need-swap-requires
 swap-requires c κs = search needs
 
--- src/lib.rt:85:33
 refuse-requires : tie.Need-refuse-requires
 refuse-requires c κs = search needs
 
--- src/lib.rt:85:15
 with-none-requires-18 : tie.Need-with-none-requires-18
 with-none-requires-18 c κs = search needs
 
--- src/lib.rt:86:33
 xor-requires : tie.Need-xor-requires
 xor-requires c κs = search needs
 
--- src/lib.rt:86:15
 with-none-requires-19 : tie.Need-with-none-requires-19
 with-none-requires-19 c κs = search needs
 
--- src/lib.rt:87:77
 zero-requires : tie.Need-zero-requires
 zero-requires c κs = search needs
 
--- src/lib.rt:87:93
 negative-requires : tie.Need-negative-requires
 negative-requires c κs = search needs
 
--- src/lib.rt:87:57
 is-taken-requires : tie.Need-is-taken-requires
 is-taken-requires c κs = search needs
 
--- src/lib.rt:87:32
 jump-if-requires : tie.Need-jump-if-requires
 jump-if-requires c κs = search needs
 
--- src/lib.rt:87:14
 with-none-requires-20 : tie.Need-with-none-requires-20
 with-none-requires-20 c κs = search needs
 
--- src/lib.rt:58:1
 returns : tie.Need-returns
 unfolding execute opAt
 returns c = let a = c .before .before .before .args in let l = a .cells .now in let m = core l (a .s) in quiet-none l m _ (c .before .before .before .pre .0) (c .before .add .result) (c .with-none .ensures) (c .before .add .ensures) ∙ op-is (argOf (a .x)) (argOf (a .y)) (regAt (a .x .reg)) (regAt (a .y .reg)) m (a .op) 0 (c .before .before .match .keys1)
 
--- src/lib.rt:58:1
 returns-2 : tie.Need-returns-2
 unfolding execute opAt
 returns-2 c = let a = c .before .before .before .args in let l = a .cells .now in let m = core l (a .s) in quiet-none l m _ (c .before .before .before .pre .0) (c .before .and .result) (c .with-none2 .ensures) (c .before .and .ensures) ∙ op-is (argOf (a .x)) (argOf (a .y)) (regAt (a .x .reg)) (regAt (a .y .reg)) m (a .op) 1 (c .before .before .match .keys2)
 
--- src/lib.rt:58:1
 returns-3 : tie.Need-returns-3
 unfolding execute opAt
 returns-3 c = let a = c .before .before .args in let l = a .cells .now in let m = core l (a .s) in quiet-made l m _ (c .call .result) (c .call .ensures) ∙ op-is (argOf (a .x)) (argOf (a .y)) (regAt (a .x .reg)) (regAt (a .y .reg)) m (a .op) 2 (c .before .match .keys3)
 
--- src/lib.rt:58:1
 returns-4 : tie.Need-returns-4
 unfolding execute opAt
 returns-4 c = let a = c .before .before .before .args in let l = a .cells .now in let m = core l (a .s) in quiet-none l m _ (c .before .before .before .pre .0) (c .before .cmp .result) (c .with-none3 .ensures) (c .before .cmp .ensures) ∙ op-is (argOf (a .x)) (argOf (a .y)) (regAt (a .x .reg)) (regAt (a .y .reg)) m (a .op) 3 (c .before .before .match .keys4)
 
--- src/lib.rt:58:1
 returns-5 : tie.Need-returns-5
 unfolding execute opAt
 returns-5 c = let a = c .before .before .before .args in let l = a .cells .now in let m = core l (a .s) in quiet-none l m _ (c .before .before .before .pre .0) (c .before .div .result) (c .with-none4 .ensures) (c .before .div .ensures) ∙ op-is (argOf (a .x)) (argOf (a .y)) (regAt (a .x .reg)) (regAt (a .y .reg)) m (a .op) 4 (c .before .before .match .keys5)
 
--- src/lib.rt:58:1
 returns-6 : tie.Need-returns-6
 unfolding execute opAt
 returns-6 c = let a = c .before .before .args in let l = a .cells .now in let m = core l (a .s) in quiet-made l m _ (c .fas .result) (c .fas .ensures) ∙ op-is (argOf (a .x)) (argOf (a .y)) (regAt (a .x .reg)) (regAt (a .y .reg)) m (a .op) 5 (c .before .match .keys6)
 
--- src/lib.rt:58:1
 returns-7 : tie.Need-returns-7
 unfolding execute opAt
 returns-7 c = let a = c .before .before .before .args in let l = a .cells .now in let m = core l (a .s) in quiet-none l m _ (c .before .before .before .pre .0) (c .before .ld .result) (c .with-none5 .ensures) (c .before .ld .ensures) ∙ op-is (argOf (a .x)) (argOf (a .y)) (regAt (a .x .reg)) (regAt (a .y .reg)) m (a .op) 14 (c .before .before .match .keys7)
 
--- src/lib.rt:58:1
 returns-8 : tie.Need-returns-8
 unfolding execute opAt
 returns-8 c = let a = c .before .before .before .args in let l = a .cells .now in let m = core l (a .s) in quiet-none l m _ (c .before .before .before .pre .0) (c .before .mul .result) (c .with-none6 .ensures) (c .before .mul .ensures) ∙ op-is (argOf (a .x)) (argOf (a .y)) (regAt (a .x .reg)) (regAt (a .y .reg)) m (a .op) 15 (c .before .before .match .keys8)
 
--- src/lib.rt:58:1
 returns-9 : tie.Need-returns-9
 unfolding execute opAt
 returns-9 c = let a = c .before .before .before .args in let l = a .cells .now in let m = core l (a .s) in quiet-none l m _ (c .before .before .before .pre .0) (c .before .neg .result) (c .with-none7 .ensures) (c .before .neg .ensures l) ∙ op-is (argOf (a .x)) (argOf (a .y)) (regAt (a .x .reg)) (regAt (a .y .reg)) m (a .op) 16 (c .before .before .match .keys9)
 
--- src/lib.rt:58:1
 returns-10 : tie.Need-returns-10
 unfolding execute opAt
 returns-10 c = let a = c .before .before .before .args in let l = a .cells .now in let m = core l (a .s) in quiet-none l m _ (c .before .before .before .pre .0) (c .before .accept .result) (c .with-none8 .ensures) (ap (putRes l) (c .before .accept .ensures)) ∙ op-is (argOf (a .x)) (argOf (a .y)) (regAt (a .x .reg)) (regAt (a .y .reg)) m (a .op) 17 (c .before .before .match .keys10)
 
--- src/lib.rt:58:1
 returns-11 : tie.Need-returns-11
 unfolding execute opAt
 returns-11 c = let a = c .before .before .before .args in let l = a .cells .now in let m = core l (a .s) in quiet-none l m _ (c .before .before .before .pre .0) (c .before .not .result) (c .with-none9 .ensures) (c .before .not .ensures l) ∙ op-is (argOf (a .x)) (argOf (a .y)) (regAt (a .x .reg)) (regAt (a .y .reg)) m (a .op) 18 (c .before .before .match .keys11)
 
--- src/lib.rt:58:1
 returns-12 : tie.Need-returns-12
 unfolding execute opAt
 returns-12 c = let a = c .before .before .before .args in let l = a .cells .now in let m = core l (a .s) in quiet-none l m _ (c .before .before .before .pre .0) (c .before .or .result) (c .with-none10 .ensures) (c .before .or .ensures) ∙ op-is (argOf (a .x)) (argOf (a .y)) (regAt (a .x .reg)) (regAt (a .y .reg)) m (a .op) 19 (c .before .before .match .keys12)
 
--- src/lib.rt:58:1
 returns-13 : tie.Need-returns-13
 unfolding execute opAt
 returns-13 c = let a = c .before .before .before .args in let l = a .cells .now in let m = core l (a .s) in quiet-none l m _ (c .before .before .before .pre .0) (c .before .pop .result) (c .with-none11 .ensures) (c .before .pop .ensures) ∙ op-is (argOf (a .x)) (argOf (a .y)) (regAt (a .x .reg)) (regAt (a .y .reg)) m (a .op) 21 (c .before .before .match .keys13)
 
--- src/lib.rt:58:1
 returns-14 : tie.Need-returns-14
 unfolding execute opAt
 returns-14 c = let a = c .before .before .args in let l = a .cells .now in let m = core l (a .s) in quiet-made l m _ (c .push .result) (c .push .ensures) ∙ op-is (argOf (a .x)) (argOf (a .y)) (regAt (a .x .reg)) (regAt (a .y .reg)) m (a .op) 22 (c .before .match .keys14)
 
--- src/lib.rt:58:1
 returns-15 : tie.Need-returns-15
 unfolding execute opAt
 returns-15 c = let a = c .before .before .before .args in let l = a .cells .now in let m = core l (a .s) in quiet-none l m _ (c .before .before .before .pre .0) (c .before .reset .result) (c .with-none12 .ensures) (c .before .reset .ensures l) ∙ op-is (argOf (a .x)) (argOf (a .y)) (regAt (a .x .reg)) (regAt (a .y .reg)) m (a .op) 23 (c .before .before .match .keys15)
 
--- src/lib.rt:58:1
 returns-16 : tie.Need-returns-16
 unfolding execute opAt
 returns-16 c = let a = c .before .before .before .args in let l = a .cells .now in let m = core l (a .s) in quiet-none l m _ (c .before .before .before .pre .0) (c .before .rti .result) (c .with-none13 .ensures) (c .before .rti .ensures) ∙ op-is (argOf (a .x)) (argOf (a .y)) (regAt (a .x .reg)) (regAt (a .y .reg)) m (a .op) 24 (c .before .before .match .keys16)
 
--- src/lib.rt:58:1
 returns-17 : tie.Need-returns-17
 unfolding execute opAt
 returns-17 c = let a = c .before .before .before .args in let l = a .cells .now in let m = core l (a .s) in quiet-none l m _ (c .before .before .before .pre .0) (c .before .rtn .result) (c .with-none14 .ensures) (c .before .rtn .ensures) ∙ op-is (argOf (a .x)) (argOf (a .y)) (regAt (a .x .reg)) (regAt (a .y .reg)) m (a .op) 25 (c .before .before .match .keys17)
 
--- src/lib.rt:58:1
 returns-18 : tie.Need-returns-18
 unfolding execute opAt
 returns-18 c = let a = c .before .before .before .args in let l = a .cells .now in let m = core l (a .s) in quiet-none l m _ (c .before .before .before .pre .0) (c .before .shl .result) (c .with-none15 .ensures) (c .before .shl .ensures) ∙ op-is (argOf (a .x)) (argOf (a .y)) (regAt (a .x .reg)) (regAt (a .y .reg)) m (a .op) 26 (c .before .before .match .keys18)
 
--- src/lib.rt:58:1
 returns-19 : tie.Need-returns-19
 unfolding execute opAt
 returns-19 c = let a = c .before .before .before .args in let l = a .cells .now in let m = core l (a .s) in quiet-none l m _ (c .before .before .before .pre .0) (c .before .shr .result) (c .with-none16 .ensures) (c .before .shr .ensures) ∙ op-is (argOf (a .x)) (argOf (a .y)) (regAt (a .x .reg)) (regAt (a .y .reg)) m (a .op) 27 (c .before .before .match .keys19)
 
--- src/lib.rt:58:1
 returns-20 : tie.Need-returns-20
 unfolding execute opAt
 returns-20 c = let a = c .before .before .args in let l = a .cells .now in let m = core l (a .s) in quiet-made l m _ (c .st .result) (c .st .ensures) ∙ op-is (argOf (a .x)) (argOf (a .y)) (regAt (a .x .reg)) (regAt (a .y .reg)) m (a .op) 28 (c .before .match .keys20)
 
--- src/lib.rt:58:1
 returns-21 : tie.Need-returns-21
 unfolding execute opAt
 returns-21 c = let a = c .before .before .before .args in let l = a .cells .now in let m = core l (a .s) in quiet-none l m _ (c .before .before .before .pre .0) (c .before .sub .result) (c .with-none17 .ensures) (c .before .sub .ensures) ∙ op-is (argOf (a .x)) (argOf (a .y)) (regAt (a .x .reg)) (regAt (a .y .reg)) m (a .op) 29 (c .before .before .match .keys21)
 
--- src/lib.rt:58:1
 returns-22 : tie.Need-returns-22
 unfolding execute opAt
 returns-22 c = let a = c .before .before .args in let l = a .cells .now in let m = core l (a .s) in quiet-made l m _ (c .swap .result) (c .swap .ensures) ∙ op-is (argOf (a .x)) (argOf (a .y)) (regAt (a .x .reg)) (regAt (a .y .reg)) m (a .op) 30 (c .before .match .keys22)
 
--- src/lib.rt:58:1
 returns-23 : tie.Need-returns-23
 unfolding execute opAt
 returns-23 c = let a = c .before .before .before .args in let l = a .cells .now in let m = core l (a .s) in quiet-none l m _ (c .before .before .before .pre .0) (c .before .refuse .result) (c .with-none18 .ensures) (ap (putRes l) (c .before .refuse .ensures)) ∙ op-is (argOf (a .x)) (argOf (a .y)) (regAt (a .x .reg)) (regAt (a .y .reg)) m (a .op) 31 (c .before .before .match .keys23)
 
--- src/lib.rt:58:1
 returns-24 : tie.Need-returns-24
 unfolding execute opAt
 returns-24 c = let a = c .before .before .before .args in let l = a .cells .now in let m = core l (a .s) in quiet-none l m _ (c .before .before .before .pre .0) (c .before .xor .result) (c .with-none19 .ensures) (c .before .xor .ensures) ∙ op-is (argOf (a .x)) (argOf (a .y)) (regAt (a .x .reg)) (regAt (a .y .reg)) m (a .op) 32 (c .before .before .match .keys24)
 
--- src/lib.rt:58:1
 returns-25 : tie.Need-returns-25
 returns-25 c = let k = c .before .before .before .before .before in let a = k .before .args in let l = a .cells .now in let m = core l (a .s) in let o = a .op in
     let j = jumps-left o (k .before .pre .1 .1) (k .before .pre .1 .0) (k .match .rest) in

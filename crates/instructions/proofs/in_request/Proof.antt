@@ -11,35 +11,27 @@ use Rattle.arguments.proofs.resolve.Reads as resolve-reads
 use Rattle.registers.proofs.get_reg.Reads as get-reg-reads
 use Rattle.registers.proofs.supervisor.Reads as supervisor-reads
 
--- src/lib.rt:123:8
 supervisor-requires : tie.Need-supervisor-requires
 supervisor-requires c κs = search needs
 
--- src/lib.rt:124:34
 get-reg-requires : tie.Need-get-reg-requires
 get-reg-requires c κs = search needs
 
--- src/lib.rt:124:15
 resolve-requires : tie.Need-resolve-requires
 resolve-requires c κs = search needs
 
--- src/lib.rt:125:25
 enum-known-n : tie.Need-enum-known-n
 enum-known-n c = search needs
 
--- src/lib.rt:126:62
 enum-told : tie.Need-enum-told
 enum-told c = search needs
 
--- src/lib.rt:120:1
 returns : tie.Need-returns
 returns c = λ l. let a = c .before .before .before .before .before .before .before .before .args in let e = rw (c .before .before .before .before .before .get-reg .ensures, back (a .x .number) (c .before .before .before .before .struct-told .given .1 .1 .0 .1)) at (c .before .before .before .resolve .ensures) in in-yes l (a .s) (a .x) (regAt (a .r)) (c .before .n .given .0 .0) (sym (c .before .before .before .before .before .before .before .supervisor .ensures) ∙ c .before .before .before .before .before .before .if1 .taken) (sym e ∙ c .before .n .given .1)
 
--- src/lib.rt:120:1
 returns-2 : tie.Need-returns-2
 returns-2 c = λ l. let a = c .before .before .before .before .before .before .before .args in let e = rw (c .before .before .before .before .get-reg .ensures, back (a .x .number) (c .before .before .before .struct-told .given .1 .1 .0 .1)) at (c .before .before .resolve .ensures) in in-no l (a .s) (a .x) (regAt (a .r)) (sym (c .before .before .before .before .before .before .supervisor .ensures) ∙ c .before .before .before .before .before .if1 .taken) (sym e ∙ c .enum-told .given .1)
 
--- src/lib.rt:120:1
 returns-3 : tie.Need-returns-3
 returns-3 c = λ l. let a = c .before .before .args in in-user l (a .s) (a .x) (regAt (a .r)) (sym (c .before .supervisor .ensures) ∙ c .if1 .left)
 

@@ -11,58 +11,45 @@ use Rattle.arguments.proofs.resolve.Reads as resolve-reads
 use Rattle.registers.proofs.get_reg.Reads as get-reg-reads
 use Rattle.registers.proofs.supervisor.Reads as supervisor-reads
 
--- src/lib.rt:137:8
 supervisor-requires : tie.Need-supervisor-requires
 supervisor-requires c κs = search needs
 
--- src/lib.rt:138:46
 get-reg-requires : tie.Need-get-reg-requires
 get-reg-requires c κs = search needs
 
--- src/lib.rt:138:15
 operand-word-requires : tie.Need-operand-word-requires
 operand-word-requires c κs = search needs
 
--- src/lib.rt:139:22
 enum-known-w : tie.Need-enum-known-w
 enum-known-w c = search needs
 
--- src/lib.rt:139:53
 get-reg-requires-2 : tie.Need-get-reg-requires-2
 get-reg-requires-2 c κs = search needs
 
--- src/lib.rt:139:34
 resolve-requires : tie.Need-resolve-requires
 resolve-requires c κs = search needs
 
--- src/lib.rt:140:29
 enum-known-n : tie.Need-enum-known-n
 enum-known-n c = search needs
 
--- src/lib.rt:141:66
 enum-told : tie.Need-enum-told
 enum-told c = search needs
 
--- src/lib.rt:143:56
 enum-told-2 : tie.Need-enum-told-2
 enum-told-2 c = search needs
 
--- src/lib.rt:134:1
 returns : tie.Need-returns
 returns c = let a = c .before .before .before .before .before .before .before .before .before .before .before .before .before .before .args in let l = a .cells .now in let e = rw (c .before .before .before .before .before .before .before .before .before .before .before .get-reg .ensures, back (a .x .number) (c .before .before .before .before .before .before .before .before .before .before .struct-told .given .1 .1 .0 .1)) at (c .before .before .before .before .before .before .before .before .before .operand-word .ensures) in let f = rw (c .before .before .before .before .before .get-reg2 .ensures, back (a .y .number) (c .before .before .before .before .struct-told2 .given .1 .1 .0 .1)) at (c .before .before .before .resolve .ensures) in let w = c .before .before .before .before .before .before .before .w .given .0 .0 in
     rw (back w (c .before .before .before .before .before .before .known-told .given .0 .1)) (out-yes l (a .s) (a .x) (a .y) (sym (c .before .before .before .before .before .before .before .before .before .before .before .before .before .supervisor .ensures) ∙ c .before .before .before .before .before .before .before .before .before .before .before .before .if1 .taken) w (c .before .n .given .0 .0) (sym e ∙ c .before .before .before .before .before .before .before .w .given .1) (sym f ∙ c .before .n .given .1))
 
--- src/lib.rt:134:1
 returns-2 : tie.Need-returns-2
 returns-2 c = let a = c .before .before .before .before .before .before .before .before .before .before .before .before .before .args in let l = a .cells .now in let e = rw (c .before .before .before .before .before .before .before .before .before .before .get-reg .ensures, back (a .x .number) (c .before .before .before .before .before .before .before .before .before .struct-told .given .1 .1 .0 .1)) at (c .before .before .before .before .before .before .before .before .operand-word .ensures) in let f = rw (c .before .before .before .before .get-reg2 .ensures, back (a .y .number) (c .before .before .before .struct-told2 .given .1 .1 .0 .1)) at (c .before .before .resolve .ensures) in
     out-no l (a .s) (a .x) (a .y) (sym (c .before .before .before .before .before .before .before .before .before .before .before .before .supervisor .ensures) ∙ c .before .before .before .before .before .before .before .before .before .before .before .if1 .taken) (c .before .before .before .before .before .before .w .given .0 .0) (sym e ∙ c .before .before .before .before .before .before .w .given .1) (sym f ∙ c .enum-told .given .1)
 
--- src/lib.rt:134:1
 returns-3 : tie.Need-returns-3
 returns-3 c = let a = c .before .before .before .before .before .before .before .args in let l = a .cells .now in let e = rw (c .before .before .before .before .get-reg .ensures, back (a .x .number) (c .before .before .before .struct-told .given .1 .1 .0 .1)) at (c .before .before .operand-word .ensures) in
     out-not l (a .s) (a .x) (a .y) (sym (c .before .before .before .before .before .before .supervisor .ensures) ∙ c .before .before .before .before .before .if1 .taken) (sym e ∙ c .enum-told2 .given .1)
 
--- src/lib.rt:134:1
 returns-4 : tie.Need-returns-4
 returns-4 c = let a = c .before .before .args in let l = a .cells .now in out-user l (a .s) (a .x) (a .y) (sym (c .before .supervisor .ensures) ∙ c .if1 .left)
 

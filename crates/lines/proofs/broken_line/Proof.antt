@@ -7,14 +7,12 @@ use Rattle.lines.proofs.broken_line.Tie as tie
 use Rattle.lines.proofs.broken_line.Reads as reads
 use Rattle.lines.proofs.broken_line.Lts as lts
 
--- src/lib.rt:221:9
 returns : tie.Need-returns
 unfolding brokenLine
 returns c = let r = c .before .before .before .before .before .args .r in
     let t : (r .broken || ((r .field .minus || r .field .digits) || ltb 0 (r .count))) ≡ true = c .if1 .taken in
     rw t
 
--- src/lib.rt:216:1
 returns-2 : tie.Need-returns-2
 unfolding brokenLine
 returns-2 c = let r = c .before .before .before .before .before .args .r in

@@ -8,32 +8,26 @@ use Rattle.lines.proofs.letter_at.Tie as tie
 use Rattle.lines.proofs.letter_at.Reads as reads
 use Rattle.lines.proofs.letter_at.Lts as lts
 
--- src/lib.rt:103:1
 returns : tie.Need-returns
 unfolding letter
 returns c = rw (c .match .keys1)
 
--- src/lib.rt:103:1
 returns-2 : tie.Need-returns-2
 unfolding letter
 returns-2 c = rw (c .match .keys2)
 
--- src/lib.rt:103:1
 returns-3 : tie.Need-returns-3
 unfolding letter
 returns-3 c = rw (c .match .keys3)
 
--- src/lib.rt:103:1
 returns-4 : tie.Need-returns-4
 unfolding letter
 returns-4 c = rw (c .match .keys4)
 
--- src/lib.rt:103:1
 returns-5 : tie.Need-returns-5
 unfolding letter
 returns-5 c = rw (c .match .keys5)
 
--- src/lib.rt:103:1
 returns-6 : tie.Need-returns-6
 returns-6 c = let n = c .match .rest in
     sym (letter-last (c .before .args .i) (n .0 .0 .0 .0 .1) (n .0 .0 .0 .1) (n .0 .0 .1) (n .0 .1) (n .1))

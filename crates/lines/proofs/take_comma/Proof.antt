@@ -14,17 +14,14 @@ use Rattle.lines.proofs.take_comma.Lts as lts
 use Rattle.lines.proofs.break_line.Reads as break-line-reads
 use Rattle.lines.proofs.value_of.Reads as value-of-reads
 
--- src/lib.rt:156:19
 add-q : tie.Need-add-q
 add-q c = let r = c .before .before .before .before .before .before .args .r in
     let p = both (r .field .digits) (ltb (r .count) 3) (c .before .if1 .taken) in
     omega (arith, ltb-true (r .count) 3 (p .1))
 
--- src/lib.rt:157:13
 value-of-requires : tie.Need-value-of-requires
 value-of-requires c κs = search needs
 
--- src/lib.rt:170:9
 returns : tie.Need-returns
 unfolding comma
 returns c = let l = c .before .before .before .before .before .before .before .before .args .r .last in
@@ -32,11 +29,9 @@ returns c = let l = c .before .before .before .before .before .before .before .b
     let w = c .before .value-of in
     rw (c .before .before .before .if1 .taken, back (l .y) (g .1 .0 .1), back (l .z) (g .1 .1 .0 .1), back (w .result) (w .ok), w .ensures)
 
--- src/lib.rt:172:5
 break-line-requires : tie.Need-break-line-requires
 break-line-requires c κs = search needs
 
--- src/lib.rt:149:1
 returns-2 : tie.Need-returns-2
 unfolding comma
 returns-2 c = rw (c .break-line .ensures, c .before .if1 .left)

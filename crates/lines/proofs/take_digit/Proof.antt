@@ -13,45 +13,36 @@ use Rattle.lines.proofs.break_line.Reads as break-line-reads
 use Rattle.lines.proofs.limit_of.Reads as limit-of-reads
 use Rattle.lines.proofs.with_field.Reads as with-field-reads
 
--- src/lib.rt:135:9
 break-line-requires : tie.Need-break-line-requires
 break-line-requires c κs = search needs
 
--- src/lib.rt:135:9
 returns : tie.Need-returns
 unfolding digit
 returns c = let r = c .before .before .before .args .r in
     let d = c .before .before .before .args .d in
     rw (c .break-line .ensures) simp (lt-leb (r .field .magnitude * 10 + d) (limit (r .field .minus)) (omega (arith, limit-most (r .field .minus))))
 
--- src/lib.rt:137:13
 mul-v : tie.Need-mul-v
 mul-v c = search needs
 
--- src/lib.rt:137:13
 add-v : tie.Need-add-v
 add-v c = search needs
 
--- src/lib.rt:138:8
 limit-of-requires : tie.Need-limit-of-requires
 limit-of-requires c κs = search needs
 
--- src/lib.rt:139:9
 break-line-requires-2 : tie.Need-break-line-requires-2
 break-line-requires-2 c κs = search needs
 
--- src/lib.rt:139:9
 returns-2 : tie.Need-returns-2
 unfolding digit
 returns-2 c = let r = c .before .before .before .before .before .args .r in
     let d = c .before .before .before .before .before .args .d in
     rw (c .break-line2 .ensures) simp (lt-leb (r .field .magnitude * 10 + d) (limit (r .field .minus)) (rw (c .before .before .limit-of .ensures) at (c .before .if2 .taken)))
 
--- src/lib.rt:146:5
 with-field-requires : tie.Need-with-field-requires
 with-field-requires c κs = search needs
 
--- src/lib.rt:128:1
 returns-3 : tie.Need-returns-3
 unfolding digit
 returns-3 c = let r = c .before .before .before .before .before .args .r in

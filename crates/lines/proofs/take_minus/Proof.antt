@@ -7,20 +7,16 @@ use Rattle.lines.proofs.take_minus.Lts as lts
 use Rattle.lines.proofs.break_line.Reads as break-line-reads
 use Rattle.lines.proofs.with_field.Reads as with-field-reads
 
--- src/lib.rt:180:9
 break-line-requires : tie.Need-break-line-requires
 break-line-requires c κs = search needs
 
--- src/lib.rt:180:9
 returns : tie.Need-returns
 unfolding minus
 returns c = rw (c .break-line .ensures, c .before .if1 .taken)
 
--- src/lib.rt:187:5
 with-field-requires : tie.Need-with-field-requires
 with-field-requires c κs = search needs
 
--- src/lib.rt:175:1
 returns-2 : tie.Need-returns-2
 unfolding minus
 returns-2 c = rw (c .with-field .ensures, c .before .if1 .left)

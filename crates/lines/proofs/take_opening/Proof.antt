@@ -9,25 +9,20 @@ use Rattle.lines.proofs.take_opening.Lts as lts
 use Rattle.lines.proofs.break_line.Reads as break-line-reads
 use Rattle.lines.proofs.letter_at.Reads as letter-at-reads
 
--- src/lib.rt:120:8
 letter-at-requires : tie.Need-letter-at-requires
 letter-at-requires c κs = search needs
 
--- src/lib.rt:122:21
 add-q : tie.Need-add-q
 add-q c = search needs
 
--- src/lib.rt:123:9
 returns : tie.Need-returns
 unfolding openingByte
 returns c = let e = c .before .before .letter-at .ensures in
     simp (eq-eqb _ _ (sym e ∙ c .before .if1 .taken))
 
--- src/lib.rt:125:5
 break-line-requires : tie.Need-break-line-requires
 break-line-requires c κs = search needs
 
--- src/lib.rt:116:1
 returns-2 : tie.Need-returns-2
 unfolding openingByte
 returns-2 c = let e = c .before .before .letter-at .ensures in

@@ -11,61 +11,48 @@ use Rattle.lines.proofs.take_digit.Reads as take-digit-reads
 use Rattle.lines.proofs.take_minus.Reads as take-minus-reads
 use Rattle.lines.proofs.take_opening.Reads as take-opening-reads
 
--- src/lib.rt:195:9
 returns : tie.Need-returns
 unfolding within plain
 returns c = rw (c .if1 .taken)
 
--- src/lib.rt:198:9
 take-opening-requires : tie.Need-take-opening-requires
 take-opening-requires c κs = search needs
 
--- src/lib.rt:198:9
 returns-2 : tie.Need-returns-2
 unfolding within plain
 returns-2 c = simp (c .before .before .before .if1 .left, lt-ltb _ _ (c .before .if2 .taken)) (c .take-opening .ensures)
 
--- src/lib.rt:202:13
 take-comma-requires : tie.Need-take-comma-requires
 take-comma-requires c κs = search needs
 
--- src/lib.rt:202:13
 returns-3 : tie.Need-returns-3
 unfolding within plain
 returns-3 c = simp (c .before .before .before .before .before .if1 .left, le-ltb _ _ (c .before .before .before .if2 .left), lt-ltb _ _ (c .before .before .if3 .taken), eq-eqb _ _ (c .before .if4 .taken)) (c .take-comma .ensures)
 
--- src/lib.rt:205:13
 take-minus-requires : tie.Need-take-minus-requires
 take-minus-requires c κs = search needs
 
--- src/lib.rt:205:13
 returns-4 : tie.Need-returns-4
 unfolding within plain
 returns-4 c = simp (c .before .before .before .before .before .before .if1 .left, le-ltb _ _ (c .before .before .before .before .if2 .left), lt-ltb _ _ (c .before .before .before .if3 .taken), ne-eqb _ _ (c .before .before .if4 .left), eq-eqb _ _ (c .before .if5 .taken)) (c .take-minus .ensures)
 
--- src/lib.rt:207:9
 break-line-requires : tie.Need-break-line-requires
 break-line-requires c κs = search needs
 
--- src/lib.rt:207:9
 returns-5 : tie.Need-returns-5
 unfolding within plain
 returns-5 c = simp (c .before .before .before .before .before .before .if1 .left, le-ltb _ _ (c .before .before .before .before .if2 .left), lt-ltb _ _ (c .before .before .before .if3 .taken), ne-eqb _ _ (c .before .before .if4 .left), ne-eqb _ _ (c .before .if5 .left)) (c .break-line .ensures)
 
--- src/lib.rt:210:9
 take-digit-requires : tie.Need-take-digit-requires
 take-digit-requires c κs = search needs
 
--- src/lib.rt:210:9
 returns-6 : tie.Need-returns-6
 unfolding within plain
 returns-6 c = simp (c .before .before .before .before .before .if1 .left, le-ltb _ _ (c .before .before .before .if2 .left), le-ltb _ _ (c .before .before .if3 .left), lt-ltb _ _ (c .before .if6 .taken)) (c .take-digit .ensures)
 
--- src/lib.rt:212:5
 break-line-requires-2 : tie.Need-break-line-requires-2
 break-line-requires-2 c κs = search needs
 
--- src/lib.rt:191:1
 returns-7 : tie.Need-returns-7
 unfolding within plain
 returns-7 c = simp (c .before .before .before .before .before .if1 .left, le-ltb _ _ (c .before .before .before .if2 .left), le-ltb _ _ (c .before .before .if3 .left), le-ltb _ _ (c .before .if6 .left)) (c .break-line2 .ensures)

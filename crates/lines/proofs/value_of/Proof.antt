@@ -9,22 +9,18 @@ use Rattle.lines.proofs.value_of.Lts as lts
 use Rattle.word.proofs.neg.Reads as neg-reads
 use Rattle.word.proofs.of_bits.Reads as of-bits-reads
 
--- src/lib.rt:94:9
 of-bits-requires : tie.Need-of-bits-requires
 of-bits-requires c κs = search needs
 
--- src/lib.rt:96:13
 neg-requires : tie.Need-neg-requires
 neg-requires c κs = search needs
 
--- src/lib.rt:97:9
 returns : tie.Need-returns
 unfolding valueOf wrapped
 returns c = let n = c .before .neg in
     let w = c .before .before .before .of-bits in
     rw (back (n .result .value) (c .struct-told .given .0 .1), n .ensures, back (w .result) (w .ok), w .ensures, c .before .before .if1 .taken)
 
--- src/lib.rt:91:1
 returns-2 : tie.Need-returns-2
 unfolding valueOf
 returns-2 c = let w = c .before .of-bits in

@@ -9,15 +9,12 @@ use Rattle.memory.proofs.address_cell.Reads as reads
 use Rattle.memory.proofs.address_cell.Lts as lts
 use Rattle.memory.proofs.word_cell.Reads as word-cell-reads
 
--- src/lib.rt:105:15
 cast-word-cell : tie.Need-cast-word-cell
 cast-word-cell c = search needs
 
--- src/lib.rt:105:5
 word-cell-requires : tie.Need-word-cell-requires
 word-cell-requires c κs = search needs
 
--- src/lib.rt:102:1
 returns : tie.Need-returns
 returns c = let n = c .before .args .n in let h : n < 2 ^ 63 = omega arith in cc (toZ-pos w64 h)
 

@@ -10,28 +10,22 @@ use Rattle.memory.proofs.extract_address.Lts as lts
 use Rattle.memory.proofs.extract_word.Reads as extract-word-reads
 use Rattle.word.proofs.to_address.Reads as to-address-reads
 
--- src/lib.rt:84:11
 extract-word-requires : tie.Need-extract-word-requires
 extract-word-requires c κs = search needs
 
--- src/lib.rt:85:18
 enum-known-w : tie.Need-enum-known-w
 enum-known-w c = search needs
 
--- src/lib.rt:85:24
 to-address-requires : tie.Need-to-address-requires
 to-address-requires c κs = search needs
 
--- src/lib.rt:86:26
 enum-told : tie.Need-enum-told
 enum-told c = search needs
 
--- src/lib.rt:81:1
 returns : tie.Need-returns
 unfolding extractAddress
 returns c = let w = c .before .before .w .given .0 .0 in rw (back w (c .before .known-told .given .0 .1)) at (c .to-address .ensures) ∙ sym (as-is w) ∙ ap asAddress (sym (c .before .before .w .given .1) ∙ c .before .before .before .before .extract-word .ensures)
 
--- src/lib.rt:81:1
 returns-2 : tie.Need-returns-2
 unfolding extractAddress
 returns-2 c = sym as-not ∙ ap asAddress (sym (c .enum-told .given .1) ∙ c .before .before .extract-word .ensures)

@@ -7,11 +7,9 @@ use Rattle.memory.proofs.extract_word.Reads as reads
 use Rattle.memory.proofs.extract_word.Lts as lts
 use Rattle.memory.proofs.word_from.Reads as word-from-reads
 
--- src/lib.rt:77:5
 word-from-requires : tie.Need-word-from-requires
 word-from-requires c κs = search needs
 
--- src/lib.rt:74:1
 returns : tie.Need-returns
 unfolding extractWord
 returns c = let v = c .before .before .before .args .v in rw (c .word-from .ensures, back (v .tag) (c .before .struct-told2 .given .0 .1), back (v .first) (c .before .struct-told2 .given .1 .0 .1))

@@ -9,15 +9,12 @@ use Rattle.memory.proofs.get.Reads as reads
 use Rattle.memory.proofs.get.Lts as lts
 use Rattle.memory.proofs.get_cell.Reads as get-cell-reads
 
--- src/lib.rt:27:21
 get-cell-requires : tie.Need-get-cell-requires
 get-cell-requires c κs = search needs
 
--- src/lib.rt:22:1
 returns : tie.Need-returns
 returns c = let a = c .before .before .args in ap Here (c .get-cell .ensures) ∙ sym (get-in (a .cells .now) (a .n) (omega arith))
 
--- src/lib.rt:22:1
 returns-2 : tie.Need-returns-2
 returns-2 c = let a = c .before .args in sym (get-out (a .cells .now) (a .n) (omega arith))
 

@@ -5,43 +5,33 @@ use Rattle.memory.proofs.get_cell.Tie as tie
 use Rattle.memory.proofs.get_cell.Reads as reads
 use Rattle.memory.proofs.get_cell.Lts as lts
 
--- src/lib.rt:17:13
 mul-i : tie.Need-mul-i
 mul-i c = search needs
 
--- src/lib.rt:18:17
 mul-t4 : tie.Need-mul-t4
 mul-t4 c = search needs
 
--- src/lib.rt:18:17
 shared-slice-copy-out-t6 : tie.Need-shared-slice-copy-out-t6
 shared-slice-copy-out-t6 c = search needs
 
--- src/lib.rt:18:40
 add-t7 : tie.Need-add-t7
 add-t7 c = search needs
 
--- src/lib.rt:18:34
 mul-t8 : tie.Need-mul-t8
 mul-t8 c = search needs
 
--- src/lib.rt:18:34
 shared-slice-copy-out-t10 : tie.Need-shared-slice-copy-out-t10
 shared-slice-copy-out-t10 c = search needs
 
--- src/lib.rt:18:62
 add-t11 : tie.Need-add-t11
 add-t11 c = search needs
 
--- src/lib.rt:18:56
 mul-t12 : tie.Need-mul-t12
 mul-t12 c = search needs
 
--- src/lib.rt:18:56
 shared-slice-copy-out-t14 : tie.Need-shared-slice-copy-out-t14
 shared-slice-copy-out-t14 c = search needs
 
--- src/lib.rt:13:1
 returns : tie.Need-returns
 unfolding cellAt
 returns c = search needs

@@ -7,11 +7,9 @@ use Rattle.memory.proofs.is_instruction.Reads as reads
 use Rattle.memory.proofs.is_instruction.Lts as lts
 use Rattle.word.proofs.lt.Reads as lt-reads
 
--- src/lib.rt:93:6
 lt-requires : tie.Need-lt-requires
 lt-requires c κs = search needs
 
--- src/lib.rt:90:1
 returns : tie.Need-returns
 unfolding isInstruction
 returns c = let v = c .before .before .args .v in cc (back (v .tag) (c .before .struct-told .given .0 .1))

@@ -9,19 +9,15 @@ use Rattle.memory.proofs.read_over.Reads as reads
 use Rattle.memory.proofs.read_over.Lts as lts
 use Rattle.memory.proofs.get.Reads as get-reads
 
--- src/lib.rt:40:13
 returns : tie.Need-returns
 returns c = let a = c .before .before .args in let l = a .cells .now in sym (rw (c .before .if1 .taken) (over-same l (a .n) (a .v) (omega arith)))
 
--- src/lib.rt:42:9
 returns-2 : tie.Need-returns-2
 returns-2 c = let a = c .before .before .args in let l = a .cells .now in sym (rw (c .before .if1 .taken) (over-out l (a .n) (a .v) (omega arith)))
 
--- src/lib.rt:44:5
 get-requires : tie.Need-get-requires
 get-requires c κs = search needs
 
--- src/lib.rt:34:1
 returns-3 : tie.Need-returns-3
 returns-3 c = let a = c .before .before .args in c .get .ensures ∙ sym (over-other (a .cells .now) (a .at) (a .v) (a .n) (c .before .if1 .left))
 

@@ -4,15 +4,12 @@ use Rattle.memory.proofs.word_from.Tie as tie
 use Rattle.memory.proofs.word_from.Reads as reads
 use Rattle.memory.proofs.word_from.Lts as lts
 
--- src/lib.rt:61:1
 returns : tie.Need-returns
 returns c = word-one _ _ (c .before .fits .tag) (c .before .fits .first) (c .if1 .taken)
 
--- src/lib.rt:61:1
 returns-2 : tie.Need-returns-2
 returns-2 c = word-low _ _ (c .before .before .fits .tag) (c .before .if1 .left) (c .if2 .taken)
 
--- src/lib.rt:61:1
 returns-3 : tie.Need-returns-3
 returns-3 c = word-high _ _ (c .before .before .fits .tag) (c .if2 .left)
 

@@ -8,31 +8,24 @@ use Rattle.operations.proofs.both.Tie as tie
 use Rattle.operations.proofs.both.Reads as reads
 use Rattle.operations.proofs.both.Lts as lts
 
--- src/lib.rt:28:18
 enum-known-x : tie.Need-enum-known-x
 enum-known-x c = search needs
 
--- src/lib.rt:29:22
 enum-known-y : tie.Need-enum-known-y
 enum-known-y c = search needs
 
--- src/lib.rt:30:30
 enum-told : tie.Need-enum-told
 enum-told c = search needs
 
--- src/lib.rt:32:26
 enum-told-2 : tie.Need-enum-told-2
 enum-told-2 c = search needs
 
--- src/lib.rt:24:1
 returns : tie.Need-returns
 returns c = let v = c .before .before .before .before .x .given .0 .0 in let w = c .before .y .given .0 .0 in rw (back v (c .before .before .before .known-told .given .0 .1), back w (c .known-told2 .given .0 .1)) (ap₂ bothOf (sym (c .before .before .before .before .x .given .1)) (sym (c .before .y .given .1)))
 
--- src/lib.rt:24:1
 returns-2 : tie.Need-returns-2
 returns-2 c = ap₂ bothOf (sym (c .before .before .before .x .given .1)) (sym (c .enum-told .given .1))
 
--- src/lib.rt:24:1
 returns-3 : tie.Need-returns-3
 returns-3 c = ap (λ (x : Word). bothOf x (c .before .before .args .y)) (sym (c .enum-told2 .given .1))
 

@@ -15,27 +15,21 @@ use Rattle.registers.proofs.put_flag.Reads as put-flag-reads
 use Rattle.word.proofs.eq.Reads as eq-reads
 use Rattle.word.proofs.lt.Reads as lt-reads
 
--- src/lib.rt:75:69
 eq-requires : tie.Need-eq-requires
 eq-requires c κs = search needs
 
--- src/lib.rt:75:43
 put-flag-requires : tie.Need-put-flag-requires
 put-flag-requires c κs = search needs
 
--- src/lib.rt:75:89
 lt-requires : tie.Need-lt-requires
 lt-requires c κs = search needs
 
--- src/lib.rt:75:23
 put-flag-requires-2 : tie.Need-put-flag-requires-2
 put-flag-requires-2 c κs = search needs
 
--- src/lib.rt:75:5
 accept-requires : tie.Need-accept-requires
 accept-requires c κs = search needs
 
--- src/lib.rt:72:1
 returns : tie.Need-returns
 unfolding putCompared
 returns c = let f = toZ-ofZ (c .before .before .before .before .before .fits .v) in let g = toZ-ofZ (c .before .before .before .before .before .fits .w) in let s = c .before .before .before .before .before .args .s in c .accept .ensures ∙ ap (λ (t : Registers). settled s (assigned t)) (c .before .put-flag2 .ensures ∙ ap₂ (λ (b : Bool) (t : Registers). putFlag 2 b t) (rw (f, g) at (c .before .before .lt .ensures)) (c .before .before .before .put-flag .ensures ∙ ap (λ (b : Bool). putFlag 1 b s) (rw (f, g) at (c .before .before .before .before .eq .ensures))))

@@ -12,28 +12,22 @@ use Rattle.operations.proofs.put_quotient.Lts as lts
 use Rattle.operations.proofs.put_result.Reads as put-result-reads
 use Rattle.registers.proofs.refuse.Reads as refuse-reads
 
--- src/lib.rt:83:27
 enum-known-x : tie.Need-enum-known-x
 enum-known-x c = search needs
 
--- src/lib.rt:83:33
 put-result-requires : tie.Need-put-result-requires
 put-result-requires c κs = search needs
 
--- src/lib.rt:84:54
 enum-told : tie.Need-enum-told
 enum-told c = search needs
 
--- src/lib.rt:84:33
 refuse-requires : tie.Need-refuse-requires
 refuse-requires c κs = search needs
 
--- src/lib.rt:79:1
 returns : tie.Need-returns
 unfolding putQuotient
 returns c = let a = c .before .before .before .before .args in rw (back (c .before .before .x .given .0 .0) (c .before .known-told .given .0 .1)) at (c .put-result .ensures) ∙ ap (λ (x : Quotient). settled (a .s) (putQuotient (regAt (a .r)) x (a .s))) (sym (c .before .before .x .given .1))
 
--- src/lib.rt:79:1
 returns-2 : tie.Need-returns-2
 unfolding putQuotient
 returns-2 c = let a = c .before .before .before .args in c .refuse .ensures ∙ ap (λ (x : Quotient). settled (a .s) (putQuotient (regAt (a .r)) x (a .s))) (sym (c .before .enum-told .given .1))

@@ -16,30 +16,24 @@ use Rattle.operations.proofs.sign_flags.Reads as sign-flags-reads
 use Rattle.registers.proofs.accept.Reads as accept-reads
 use Rattle.registers.proofs.put_reg.Reads as put-reg-reads
 
--- src/lib.rt:47:38
 word-cell-requires : tie.Need-word-cell-requires
 word-cell-requires c κs = search needs
 
--- src/lib.rt:47:9
 put-reg-requires : tie.Need-put-reg-requires
 put-reg-requires c κs = search needs
 
--- src/lib.rt:51:27
 sign-flags-requires : tie.Need-sign-flags-requires
 sign-flags-requires c κs = search needs
 
--- src/lib.rt:51:9
 accept-requires : tie.Need-accept-requires
 accept-requires c κs = search needs
 
--- src/lib.rt:44:1
 returns : tie.Need-returns
 unfolding putResult
 returns c = let a = c .before .before .before .before .before .before .args in let f = toZ-ofZ (c .before .before .before .before .before .before .fits .w) in
     let e = c .before .before .before .before .put-reg .ensures ∙ ap (λ (v : Cell). settled (a .s) (putReg (regAt (a .r)) v (a .s))) (rw f at (c .before .before .before .before .before .word-cell .ensures)) in
     c .accept .ensures ∙ ap (λ (t : Registers). settled (a .s) (assigned t)) (rw f at (c .before .sign-flags .ensures)) ∙ flags-yes (signFlags (a .w)) (a .s) (c .before .before .before .before .put-reg .result) _ e (c .before .before .if1 .taken)
 
--- src/lib.rt:44:1
 returns-2 : tie.Need-returns-2
 unfolding putResult
 returns-2 c = let a = c .before .before .before .before .args in let f = toZ-ofZ (c .before .before .before .before .fits .w) in

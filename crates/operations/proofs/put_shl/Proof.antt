@@ -19,32 +19,25 @@ use Rattle.registers.proofs.refuse.Reads as refuse-reads
 use Rattle.word.proofs.is_shift.Reads as is-shift-reads
 use Rattle.word.proofs.shl.Reads as shl-reads
 
--- src/lib.rt:92:8
 is-shift-requires : tie.Need-is-shift-requires
 is-shift-requires c κs = search needs
 
--- src/lib.rt:93:39
 cast-shl : tie.Need-cast-shl
 cast-shl c = let h = shift-range _ (sym (c .before .is-shift .ensures) ∙ c .if1 .taken) in (h .0, omega (arith, h .1))
 
--- src/lib.rt:93:26
 shl-requires : tie.Need-shl-requires
 shl-requires c κs = let h = shift-range _ (sym (c .before .is-shift .ensures) ∙ c .if1 .taken) in h .1
 
--- src/lib.rt:93:9
 put-result-requires : tie.Need-put-result-requires
 put-result-requires c κs = search needs
 
--- src/lib.rt:95:9
 refuse-requires : tie.Need-refuse-requires
 refuse-requires c κs = search needs
 
--- src/lib.rt:89:1
 returns : tie.Need-returns
 returns c = let a = c .before .before .before .before .args in let f = toZ-ofZ (c .before .before .before .before .fits .v) in let g = toZ-ofZ (c .before .before .before .before .fits .w) in let x = c .before .shl .result in
     rw (back x (c .before .shl .ok)) at (c .put-result .ensures) ∙ ap (λ (y : ℤ). settled (a .s) (putResult (regAt (a .r)) y (a .s))) (rw (f, g) at (c .before .shl .ensures)) ∙ ap (settled (a .s)) (shift-yes shlW (regAt (a .r)) (a .v) (a .w) (a .s) (sym (rw f at (c .before .before .before .is-shift .ensures)) ∙ c .before .before .if1 .taken))
 
--- src/lib.rt:89:1
 returns-2 : tie.Need-returns-2
 returns-2 c = let a = c .before .before .before .args in let f = toZ-ofZ (c .before .before .before .fits .v) in
     c .refuse .ensures ∙ ap (settled (a .s)) (shift-no shlW (regAt (a .r)) (a .v) (a .w) (a .s) (sym (rw f at (c .before .before .is-shift .ensures)) ∙ c .before .if1 .left))

@@ -19,32 +19,25 @@ use Rattle.registers.proofs.refuse.Reads as refuse-reads
 use Rattle.word.proofs.is_shift.Reads as is-shift-reads
 use Rattle.word.proofs.shr.Reads as shr-reads
 
--- src/lib.rt:102:8
 is-shift-requires : tie.Need-is-shift-requires
 is-shift-requires c κs = search needs
 
--- src/lib.rt:103:39
 cast-shr : tie.Need-cast-shr
 cast-shr c = let h = shift-range _ (sym (c .before .is-shift .ensures) ∙ c .if1 .taken) in (h .0, omega (arith, h .1))
 
--- src/lib.rt:103:26
 shr-requires : tie.Need-shr-requires
 shr-requires c κs = let h = shift-range _ (sym (c .before .is-shift .ensures) ∙ c .if1 .taken) in h .1
 
--- src/lib.rt:103:9
 put-result-requires : tie.Need-put-result-requires
 put-result-requires c κs = search needs
 
--- src/lib.rt:105:9
 refuse-requires : tie.Need-refuse-requires
 refuse-requires c κs = search needs
 
--- src/lib.rt:99:1
 returns : tie.Need-returns
 returns c = let a = c .before .before .before .before .args in let f = toZ-ofZ (c .before .before .before .before .fits .v) in let g = toZ-ofZ (c .before .before .before .before .fits .w) in let x = c .before .shr .result in
     rw (back x (c .before .shr .ok)) at (c .put-result .ensures) ∙ ap (λ (y : ℤ). settled (a .s) (putResult (regAt (a .r)) y (a .s))) (rw (f, g) at (c .before .shr .ensures)) ∙ ap (settled (a .s)) (shift-yes shrW (regAt (a .r)) (a .v) (a .w) (a .s) (sym (rw f at (c .before .before .before .is-shift .ensures)) ∙ c .before .before .if1 .taken))
 
--- src/lib.rt:99:1
 returns-2 : tie.Need-returns-2
 returns-2 c = let a = c .before .before .before .args in let f = toZ-ofZ (c .before .before .before .fits .v) in
     c .refuse .ensures ∙ ap (settled (a .s)) (shift-no shrW (regAt (a .r)) (a .v) (a .w) (a .s) (sym (rw f at (c .before .before .is-shift .ensures)) ∙ c .before .if1 .left))

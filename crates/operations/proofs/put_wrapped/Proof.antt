@@ -17,34 +17,27 @@ use Rattle.registers.proofs.accept.Reads as accept-reads
 use Rattle.registers.proofs.put_flag.Reads as put-flag-reads
 use Rattle.registers.proofs.put_reg.Reads as put-reg-reads
 
--- src/lib.rt:61:38
 word-cell-requires : tie.Need-word-cell-requires
 word-cell-requires c κs = search needs
 
--- src/lib.rt:61:9
 put-reg-requires : tie.Need-put-reg-requires
 put-reg-requires c κs = search needs
 
--- src/lib.rt:65:38
 put-flag-requires : tie.Need-put-flag-requires
 put-flag-requires c κs = search needs
 
--- src/lib.rt:65:27
 sign-flags-requires : tie.Need-sign-flags-requires
 sign-flags-requires c κs = search needs
 
--- src/lib.rt:65:9
 accept-requires : tie.Need-accept-requires
 accept-requires c κs = search needs
 
--- src/lib.rt:58:1
 returns : tie.Need-returns
 unfolding putWrapped
 returns c = let a = c .before .before .before .before .before .before .before .before .before .args in let f = back (a .x .value) (c .before .before .before .before .before .before .before .before .struct-told .given .0 .1) in
     let e = c .before .before .before .before .before .before .put-reg .ensures ∙ ap (λ (v : Cell). settled (a .s) (putReg (regAt (a .r)) v (a .s))) (rw f at (c .before .before .before .before .before .before .before .word-cell .ensures)) in
     c .accept .ensures ∙ ap (λ (t : Registers). settled (a .s) (assigned t)) (rw f at (c .before .sign-flags .ensures) ∙ ap (signFlags (a .x .value)) (c .before .before .before .put-flag .ensures)) ∙ flags-yes (λ (t : Registers). signFlags (a .x .value) (putFlag 3 (a .x .overflow) t)) (a .s) (c .before .before .before .before .before .before .put-reg .result) _ e (c .before .before .before .before .if1 .taken)
 
--- src/lib.rt:58:1
 returns-2 : tie.Need-returns-2
 unfolding putWrapped
 returns-2 c = let a = c .before .before .before .before .before .args in let f = back (a .x .value) (c .before .before .before .before .struct-told .given .0 .1) in

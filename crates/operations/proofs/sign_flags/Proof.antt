@@ -12,23 +12,18 @@ use Rattle.registers.proofs.put_flag.Reads as put-flag-reads
 use Rattle.word.proofs.eq.Reads as eq-reads
 use Rattle.word.proofs.lt.Reads as lt-reads
 
--- src/lib.rt:40:51
 eq-requires : tie.Need-eq-requires
 eq-requires c κs = search needs
 
--- src/lib.rt:40:25
 put-flag-requires : tie.Need-put-flag-requires
 put-flag-requires c κs = search needs
 
--- src/lib.rt:40:71
 lt-requires : tie.Need-lt-requires
 lt-requires c κs = search needs
 
--- src/lib.rt:40:5
 put-flag-requires-2 : tie.Need-put-flag-requires-2
 put-flag-requires-2 c κs = search needs
 
--- src/lib.rt:37:1
 returns : tie.Need-returns
 returns c = let f = toZ-ofZ (c .before .before .before .before .fits .w) in c .put-flag2 .ensures ∙ ap₂ (λ (b : Bool) (t : Registers). putFlag 2 b t) (rw f at (c .before .lt .ensures)) (c .before .before .put-flag .ensures ∙ ap (λ (b : Bool). putFlag 1 b (c .before .before .before .before .args .s)) (rw f at (c .before .before .before .eq .ensures)))
 

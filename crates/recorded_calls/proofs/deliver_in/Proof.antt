@@ -8,31 +8,24 @@ use Rattle.recorded_calls.proofs.deliver_in.Reads as reads
 use Rattle.recorded_calls.proofs.deliver_in.Lts as lts
 use Rattle.z33.proofs.serial.z33_deliver.Reads as z33-deliver-reads
 
--- src/lib.rt:68:30
 slice-relend-prefix-z33-deliver : tie.Need-slice-relend-prefix-z33-deliver
 slice-relend-prefix-z33-deliver c = search needs
 
--- src/lib.rt:68:30
 slice-aggregate-z33-deliver : tie.Need-slice-aggregate-z33-deliver
 slice-aggregate-z33-deliver c = sym (length-take-le _ _ (omega arith))
 
--- src/lib.rt:68:52
 slice-aggregate-z33-deliver-2 : tie.Need-slice-aggregate-z33-deliver-2
 slice-aggregate-z33-deliver-2 c = sym (length-take-le _ _ (omega arith))
 
--- src/lib.rt:68:5
 z33-deliver-requires : tie.Need-z33-deliver-requires
 z33-deliver-requires c κs = search needs
 
--- src/lib.rt:65:1
 same-length : tie.Need-same-length
 same-length c = search needs
 
--- src/lib.rt:65:1
 same-length-2 : tie.Need-same-length-2
 same-length-2 c = search needs
 
--- src/lib.rt:65:1
 returns : tie.Need-returns
 returns c = search needs
 

@@ -8,31 +8,24 @@ use Rattle.recorded_calls.proofs.drain_in.Reads as reads
 use Rattle.recorded_calls.proofs.drain_in.Lts as lts
 use Rattle.z33.proofs.serial.z33_drain.Reads as z33-drain-reads
 
--- src/lib.rt:74:28
 slice-aggregate-z33-drain : tie.Need-slice-aggregate-z33-drain
 slice-aggregate-z33-drain c = sym (length-take-le _ _ (omega arith))
 
--- src/lib.rt:74:47
 slice-relend-prefix-z33-drain : tie.Need-slice-relend-prefix-z33-drain
 slice-relend-prefix-z33-drain c = search needs
 
--- src/lib.rt:74:47
 slice-aggregate-z33-drain-2 : tie.Need-slice-aggregate-z33-drain-2
 slice-aggregate-z33-drain-2 c = sym (length-take-le _ _ (omega arith))
 
--- src/lib.rt:74:5
 z33-drain-requires : tie.Need-z33-drain-requires
 z33-drain-requires c κs = search needs
 
--- src/lib.rt:71:1
 same-length : tie.Need-same-length
 same-length c = search needs
 
--- src/lib.rt:71:1
 same-length-2 : tie.Need-same-length-2
 same-length-2 c = search needs
 
--- src/lib.rt:71:1
 returns : tie.Need-returns
 returns c = search needs
 

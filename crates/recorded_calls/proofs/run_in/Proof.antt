@@ -8,43 +8,33 @@ use Rattle.recorded_calls.proofs.run_in.Reads as reads
 use Rattle.recorded_calls.proofs.run_in.Lts as lts
 use Rattle.z33.proofs.run.z33_run.Reads as z33-run-reads
 
--- src/lib.rt:62:30
 slice-relend-prefix-z33-run : tie.Need-slice-relend-prefix-z33-run
 slice-relend-prefix-z33-run c = search needs
 
--- src/lib.rt:62:30
 slice-aggregate-z33-run : tie.Need-slice-aggregate-z33-run
 slice-aggregate-z33-run c = sym (length-take-le _ _ (omega arith))
 
--- src/lib.rt:62:47
 slice-relend-prefix-z33-run-2 : tie.Need-slice-relend-prefix-z33-run-2
 slice-relend-prefix-z33-run-2 c = search needs
 
--- src/lib.rt:62:47
 slice-aggregate-z33-run-2 : tie.Need-slice-aggregate-z33-run-2
 slice-aggregate-z33-run-2 c = sym (length-take-le _ _ (omega arith))
 
--- src/lib.rt:62:5
 z33-run-requires : tie.Need-z33-run-requires
 z33-run-requires c κs = search needs
 
--- src/lib.rt:51:1
 same-length : tie.Need-same-length
 same-length c = search needs
 
--- src/lib.rt:51:1
 same-length-2 : tie.Need-same-length-2
 same-length-2 c = search needs
 
--- src/lib.rt:51:1
 same-length-3 : tie.Need-same-length-3
 same-length-3 c = search needs
 
--- src/lib.rt:51:1
 same-length-4 : tie.Need-same-length-4
 same-length-4 c = search needs
 
--- src/lib.rt:51:1
 returns : tie.Need-returns
 returns c = search needs
 

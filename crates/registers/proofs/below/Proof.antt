@@ -5,15 +5,12 @@ use Rattle.registers.proofs.below.Tie as tie
 use Rattle.registers.proofs.below.Reads as reads
 use Rattle.registers.proofs.below.Lts as lts
 
--- src/lib.rt:59:38
 sub-result : tie.Need-sub-result
 sub-result c = search needs
 
--- src/lib.rt:56:1
 returns : tie.Need-returns
 returns c = below-zero _ (c .if1 .taken)
 
--- src/lib.rt:56:1
 returns-2 : tie.Need-returns-2
 returns-2 c = below-suc _ (c .if1 .left)
 

@@ -7,11 +7,9 @@ use Rattle.registers.proofs.interrupt_enable.Reads as reads
 use Rattle.registers.proofs.interrupt_enable.Lts as lts
 use Rattle.word.proofs.test_bit.Reads as test-bit-reads
 
--- src/lib.rt:42:5
 test-bit-requires : tie.Need-test-bit-requires
 test-bit-requires c κs = search needs
 
--- src/lib.rt:39:1
 returns : tie.Need-returns
 unfolding interruptEnable
 returns c = cc (back (c .before .before .args .s .sr) (c .before .struct-told .given .1 .1 .1 .1 .0 .1))

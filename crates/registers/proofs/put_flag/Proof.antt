@@ -6,11 +6,9 @@ use Rattle.registers.proofs.put_flag.Reads as reads
 use Rattle.registers.proofs.put_flag.Lts as lts
 use Rattle.word.proofs.put_bit.Reads as put-bit-reads
 
--- src/lib.rt:51:5
 put-bit-requires : tie.Need-put-bit-requires
 put-bit-requires c κs = search needs
 
--- src/lib.rt:46:1
 returns : tie.Need-returns
 returns c = rw (c .put-bit .ensures, back (c .before .before .args .s .sr) (c .before .struct-told .given .1 .1 .1 .1 .0 .1))
 

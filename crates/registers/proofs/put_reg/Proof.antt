@@ -16,59 +16,46 @@ use Rattle.registers.proofs.put_pc.Reads as put-pc-reads
 use Rattle.registers.proofs.put_sp.Reads as put-sp-reads
 use Rattle.registers.proofs.put_sr.Reads as put-sr-reads
 
--- src/lib.rt:127:13
 accept-requires : tie.Need-accept-requires
 accept-requires c κs = search needs
 
--- src/lib.rt:129:24
 extract-address-requires : tie.Need-extract-address-requires
 extract-address-requires c κs = search needs
 
--- src/lib.rt:129:14
 put-pc-requires : tie.Need-put-pc-requires
 put-pc-requires c κs = search needs
 
--- src/lib.rt:130:24
 extract-address-requires-2 : tie.Need-extract-address-requires-2
 extract-address-requires-2 c κs = search needs
 
--- src/lib.rt:130:14
 put-sp-requires : tie.Need-put-sp-requires
 put-sp-requires c κs = search needs
 
--- src/lib.rt:131:24
 extract-word-requires : tie.Need-extract-word-requires
 extract-word-requires c κs = search needs
 
--- src/lib.rt:131:14
 put-sr-requires : tie.Need-put-sr-requires
 put-sr-requires c κs = search needs
 
--- src/lib.rt:135:13
 accept-requires-2 : tie.Need-accept-requires-2
 accept-requires-2 c κs = search needs
 
--- src/lib.rt:120:1
 returns : tie.Need-returns
 unfolding putReg regAt
 returns c = let a = c .before .before .args in c .accept .ensures ∙ ap (λ (r : Reg). settled (a .s) (putReg r (a .v) (a .s))) (reg-is _ 1 (c .before .match .keys1))
 
--- src/lib.rt:120:1
 returns-2 : tie.Need-returns-2
 unfolding putReg regAt
 returns-2 c = let a = c .before .before .before .args in c .put-pc .ensures ∙ ap (λ (n : Address). settled (a .s) (putPc n (a .s))) (c .before .extract-address .ensures) ∙ ap (λ (r : Reg). settled (a .s) (putReg r (a .v) (a .s))) (reg-is _ 2 (c .before .before .match .keys2))
 
--- src/lib.rt:120:1
 returns-3 : tie.Need-returns-3
 unfolding putReg regAt
 returns-3 c = let a = c .before .before .before .args in c .put-sp .ensures ∙ ap (λ (n : Address). settled (a .s) (putSp n (a .s))) (c .before .extract-address2 .ensures) ∙ ap (λ (r : Reg). settled (a .s) (putReg r (a .v) (a .s))) (reg-is _ 3 (c .before .before .match .keys3))
 
--- src/lib.rt:120:1
 returns-4 : tie.Need-returns-4
 unfolding putReg regAt
 returns-4 c = let a = c .before .before .before .args in c .put-sr .ensures ∙ ap (λ (w : Word). settled (a .s) (putSr (supervisor (a .s)) w (a .s))) (c .before .extract-word .ensures) ∙ ap (λ (r : Reg). settled (a .s) (putReg r (a .v) (a .s))) (reg-is _ 4 (c .before .before .match .keys4))
 
--- src/lib.rt:120:1
 returns-5 : tie.Need-returns-5
 unfolding putReg
 returns-5 c = let a = c .before .before .args in let n = c .before .match .rest in c .accept2 .ensures ∙ ap (λ (r : Reg). settled (a .s) (putReg r (a .v) (a .s))) (reg-else _ (n .0 .0 .0 .1) (n .0 .0 .1) (n .0 .1) (n .1))

@@ -13,41 +13,32 @@ use Rattle.registers.proofs.accept.Reads as accept-reads
 use Rattle.registers.proofs.refuse.Reads as refuse-reads
 use Rattle.registers.proofs.supervisor.Reads as supervisor-reads
 
--- src/lib.rt:105:8
 supervisor-requires : tie.Need-supervisor-requires
 supervisor-requires c κs = search needs
 
--- src/lib.rt:107:22
 enum-known-w : tie.Need-enum-known-w
 enum-known-w c = search needs
 
--- src/lib.rt:110:17
 accept-requires : tie.Need-accept-requires
 accept-requires c κs = search needs
 
--- src/lib.rt:112:40
 enum-told : tie.Need-enum-told
 enum-told c = search needs
 
--- src/lib.rt:112:30
 refuse-requires : tie.Need-refuse-requires
 refuse-requires c κs = search needs
 
--- src/lib.rt:115:9
 refuse-requires-2 : tie.Need-refuse-requires-2
 refuse-requires-2 c κs = search needs
 
--- src/lib.rt:102:1
 returns : tie.Need-returns
 unfolding putSr
 returns c = let s = c .before .before .before .before .before .before .args .s in let w = c .before .before .w .given .0 .0 in rw (back w (c .before .known-told .given .0 .1)) at (c .accept .ensures) ∙ ap₂ (λ (b : Bool) (x : Word). settled s (putSr b x s)) (sym (c .before .before .before .before .if1 .taken) ∙ c .before .before .before .before .before .supervisor .ensures) (sym (c .before .before .w .given .1))
 
--- src/lib.rt:102:1
 returns-2 : tie.Need-returns-2
 unfolding putSr
 returns-2 c = let s = c .before .before .before .before .before .args .s in c .refuse .ensures ∙ ap₂ (λ (b : Bool) (x : Word). settled s (putSr b x s)) (sym (c .before .before .before .if1 .taken) ∙ c .before .before .before .before .supervisor .ensures) (sym (c .before .enum-told .given .1))
 
--- src/lib.rt:102:1
 returns-3 : tie.Need-returns-3
 unfolding putSr
 returns-3 c = let a = c .before .before .before .args in c .refuse2 .ensures ∙ ap (λ (b : Bool). settled (a .s) (putSr b (a .w) (a .s))) (sym (c .before .if1 .left) ∙ c .before .before .supervisor .ensures)

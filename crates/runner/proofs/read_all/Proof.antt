@@ -14,43 +14,33 @@ Inv-loop fd cells₀ r₀ turns₀ cells r turns = length cells ≡ length cells
 abbrev μ-loop : tie.MeasureT-loop
 μ-loop fd cells₀ r₀ turns₀ cells r turns = turns
 
--- src/main.rt:55:9
 open-requires : tie.Need-open-requires Inv-loop μ-loop
 open-requires c κs = search needs
 
--- src/main.rt:57:5
 loop-holds : tie.Need-loop-holds Inv-loop μ-loop
 loop-holds c = search needs
 
--- src/main.rt:58:13
 read-part-requires : tie.Need-read-part-requires Inv-loop μ-loop
 read-part-requires c κs = search needs
 
--- src/main.rt:61:13
 same-length : tie.Need-same-length Inv-loop μ-loop
 same-length c = search needs
 
--- src/main.rt:61:13
 returns : tie.Need-returns Inv-loop μ-loop
 returns c = search needs
 
--- src/main.rt:66:9
 sub-turns : tie.Need-sub-turns Inv-loop μ-loop
 sub-turns c = search needs
 
--- src/main.rt:57:5
 loop-less : tie.Need-loop-less Inv-loop μ-loop
 loop-less c = search needs
 
--- src/main.rt:57:5
 loop-again : tie.Need-loop-again Inv-loop μ-loop
 loop-again c = search needs
 
--- src/main.rt:52:1
 same-length-2 : tie.Need-same-length-2 Inv-loop μ-loop
 same-length-2 c = search needs
 
--- src/main.rt:52:1
 returns-2 : tie.Need-returns-2 Inv-loop μ-loop
 returns-2 c = search needs
 

@@ -13,31 +13,24 @@ Inv-loop n i₀ i = Unit {0}
 abbrev μ-loop : tie.MeasureT-loop
 μ-loop n i₀ i = n - i
 
--- src/main.rt:144:9
 arg-count-requires : tie.Need-arg-count-requires Inv-loop μ-loop
 arg-count-requires c κs = search needs
 
--- src/main.rt:145:5
 loop-holds : tie.Need-loop-holds Inv-loop μ-loop
 loop-holds c = search needs
 
--- src/main.rt:146:9
 replay-file-requires : tie.Need-replay-file-requires Inv-loop μ-loop
 replay-file-requires c κs = search needs
 
--- src/main.rt:145:9
 add-i : tie.Need-add-i Inv-loop μ-loop
 add-i c = search needs
 
--- src/main.rt:145:5
 loop-less : tie.Need-loop-less Inv-loop μ-loop
 loop-less c = search needs
 
--- src/main.rt:145:5
 loop-again : tie.Need-loop-again Inv-loop μ-loop
 loop-again c = search needs
 
--- src/main.rt:143:1
 returns : tie.Need-returns Inv-loop μ-loop
 returns c = search needs
 

@@ -8,51 +8,39 @@ use Rattle.runner_cases.proofs.read_cut.Lts as lts
 use Rattle.lines.proofs.open.Reads as open-reads
 use Rattle.lines.proofs.part.take_part.Reads as take-part-reads
 
--- src/main.rt:54:9
 open-requires : tie.Need-open-requires
 open-requires c κs = search needs
 
--- src/main.rt:56:50
 slice-aggregate-take-part : tie.Need-slice-aggregate-take-part
 slice-aggregate-take-part c = simp length-take (omega arith)
 
--- src/main.rt:56:13
 take-part-requires : tie.Need-take-part-requires
 take-part-requires c κs = search needs
 
--- src/main.rt:57:49
 sub-take-part : tie.Need-sub-take-part
 sub-take-part c = search needs
 
--- src/main.rt:57:49
 part-take-part-start : tie.Need-part-take-part-start
 part-take-part-start c = search needs
 
--- src/main.rt:57:49
 part-take-part-end : tie.Need-part-take-part-end
 part-take-part-end c = search needs
 
--- src/main.rt:57:9
 take-part-requires-2 : tie.Need-take-part-requires-2
 take-part-requires-2 c κs = search needs
 
--- src/main.rt:57:9
 same-length : tie.Need-same-length
 same-length c = search needs
 
--- src/main.rt:57:9
 returns : tie.Need-returns
 returns c = search needs
 
--- src/main.rt:59:5
 take-part-requires-3 : tie.Need-take-part-requires-3
 take-part-requires-3 c κs = search needs
 
--- src/main.rt:51:1
 same-length-2 : tie.Need-same-length-2
 same-length-2 c = search needs
 
--- src/main.rt:51:1
 returns-2 : tie.Need-returns-2
 returns-2 c = search needs
 

@@ -17,61 +17,48 @@ use Rattle.registers.proofs.accept.Reads as accept-reads
 use Rattle.registers.proofs.get_reg.Reads as get-reg-reads
 use Rattle.registers.proofs.refuse.Reads as refuse-reads
 
--- src/jumps.rt:52:46
 get-reg-requires : tie.Need-get-reg-requires
 get-reg-requires c κs = search needs
 
--- src/jumps.rt:52:15
 operand-word-requires : tie.Need-operand-word-requires
 operand-word-requires c κs = search needs
 
--- src/jumps.rt:53:22
 enum-known-w : tie.Need-enum-known-w
 enum-known-w c = search needs
 
--- src/jumps.rt:55:24
 cast-t : tie.Need-cast-t
 cast-t c = let w = c .before .before .w .given .0 .0 in let f = back w (c .before .known-told .given .0 .1) in rw f (address-cast w (rw f at (c .if2 .taken)))
 
--- src/jumps.rt:56:17
 accept-requires : tie.Need-accept-requires
 accept-requires c κs = search needs
 
--- src/jumps.rt:58:17
 refuse-requires : tie.Need-refuse-requires
 refuse-requires c κs = search needs
 
--- src/jumps.rt:60:51
 enum-told : tie.Need-enum-told
 enum-told c = search needs
 
--- src/jumps.rt:60:30
 refuse-requires-2 : tie.Need-refuse-requires-2
 refuse-requires-2 c κs = search needs
 
--- src/jumps.rt:63:9
 accept-requires-2 : tie.Need-accept-requires-2
 accept-requires-2 c κs = search needs
 
--- src/jumps.rt:48:1
 returns : tie.Need-returns
 unfolding branch asAddress
 returns c = let k = c .before .before .before .before .before in let a = k .before .before .before .before .args in let l = a .cells .now in let w = c .before .before .before .w .given .0 .0 in let f = back w (c .before .before .known-told .given .0 .1) in let e = rw (k .before .before .get-reg .ensures, back (a .x .number) (k .before .struct-told .given .1 .1 .0 .1)) at (k .operand-word .ensures) in
     ap (putRes l) (rw f at (c .accept .ensures)) ∙ jump-yes l (a .s) (a .x) (natAbs w) (ap asAddress (sym e ∙ c .before .before .before .w .given .1) ∙ sym (address-by w (rw f at (c .before .if2 .taken)))) ∙ branch-is (jump (argOf (a .x))) (return tt) (core l (a .s)) (k .before .before .before .if1 .taken)
 
--- src/jumps.rt:48:1
 returns-2 : tie.Need-returns-2
 unfolding branch asAddress
 returns-2 c = let k = c .before .before .before .before .before in let a = k .before .before .before .before .args in let l = a .cells .now in let w = c .before .before .before .w .given .0 .0 in let f = back w (c .before .before .known-told .given .0 .1) in let e = rw (k .before .before .get-reg .ensures, back (a .x .number) (k .before .struct-told .given .1 .1 .0 .1)) at (k .operand-word .ensures) in
     ap (putRes l) (c .refuse .ensures) ∙ jump-no l (a .s) (a .x) (ap asAddress (sym e ∙ c .before .before .before .w .given .1) ∙ sym (address-by w (rw f at (c .before .if2 .left)))) ∙ branch-is (jump (argOf (a .x))) (return tt) (core l (a .s)) (k .before .before .before .if1 .taken)
 
--- src/jumps.rt:48:1
 returns-3 : tie.Need-returns-3
 unfolding branch asAddress
 returns-3 c = let k = c .before .before .before in let a = k .before .before .before .before .args in let l = a .cells .now in let e = rw (k .before .before .get-reg .ensures, back (a .x .number) (k .before .struct-told .given .1 .1 .0 .1)) at (k .operand-word .ensures) in
     ap (putRes l) (c .refuse2 .ensures) ∙ jump-no l (a .s) (a .x) (ap asAddress (sym e ∙ c .before .enum-told .given .1)) ∙ branch-is (jump (argOf (a .x))) (return tt) (core l (a .s)) (k .before .before .before .if1 .taken)
 
--- src/jumps.rt:48:1
 returns-4 : tie.Need-returns-4
 unfolding branch
 returns-4 c = let a = c .before .before .args in let l = a .cells .now in ap (putRes l) (c .accept2 .ensures) ∙ branch-is (jump (argOf (a .x))) (return tt) (core l (a .s)) (c .before .if1 .left)

@@ -9,15 +9,12 @@ use Rattle.instructions.proofs.jumps.reset.Lts as lts
 use Rattle.instructions.proofs.jumps.one_less.Reads as one-less-reads
 use Rattle.registers.proofs.refuse.Reads as refuse-reads
 
--- src/jumps.rt:103:5
 one-less-requires : tie.Need-one-less-requires
 one-less-requires c κs = search needs
 
--- src/jumps.rt:104:5
 refuse-requires : tie.Need-refuse-requires
 refuse-requires c κs = search needs
 
--- src/jumps.rt:99:1
 returns : tie.Need-returns
 returns c = λ l. ap (putRes l) (c .refuse .ensures) ∙ reset-is l (c .before .before .args .s) (c .before .one-less .result) (c .before .one-less .ensures)
 

@@ -14,36 +14,28 @@ use Rattle.registers.proofs.get_reg.Reads as get-reg-reads
 use Rattle.registers.proofs.put_reg.Reads as put-reg-reads
 use Rattle.registers.proofs.refuse.Reads as refuse-reads
 
--- src/moves.rt:23:42
 get-reg-requires : tie.Need-get-reg-requires
 get-reg-requires c κs = search needs
 
--- src/moves.rt:23:11
 extract-cell-requires : tie.Need-extract-cell-requires
 extract-cell-requires c κs = search needs
 
--- src/moves.rt:24:21
 enum-known-v : tie.Need-enum-known-v
 enum-known-v c = search needs
 
--- src/moves.rt:24:27
 put-reg-requires : tie.Need-put-reg-requires
 put-reg-requires c κs = search needs
 
--- src/moves.rt:25:48
 enum-told : tie.Need-enum-told
 enum-told c = search needs
 
--- src/moves.rt:25:27
 refuse-requires : tie.Need-refuse-requires
 refuse-requires c κs = search needs
 
--- src/moves.rt:20:1
 returns : tie.Need-returns
 returns c = let a = c .before .before .before .before .before .before .before .args in let l = a .cells .now in let e = rw (c .before .before .before .before .before .before .get-reg .ensures, back (a .x .number) (c .before .before .before .before .before .struct-told .given .1 .1 .0 .1)) at (c .before .before .before .before .extract-cell .ensures) in
     ap (putRes l) (c .put-reg .ensures) ∙ settled-is (a .s) l _ ∙ ld-yes l (a .s) (a .x) (regAt (a .r)) (c .before .before .v .given .0 .0) (sym e ∙ c .before .before .v .given .1)
 
--- src/moves.rt:20:1
 returns-2 : tie.Need-returns-2
 returns-2 c = let a = c .before .before .before .before .before .before .args in let l = a .cells .now in let e = rw (c .before .before .before .before .before .get-reg .ensures, back (a .x .number) (c .before .before .before .before .struct-told .given .1 .1 .0 .1)) at (c .before .before .before .extract-cell .ensures) in
     ap (putRes l) (c .refuse .ensures) ∙ ld-no l (a .s) (a .x) (regAt (a .r)) (sym e ∙ c .before .enum-told .given .1)

@@ -13,36 +13,28 @@ use Rattle.memory.proofs.get.Reads as get-reads
 use Rattle.registers.proofs.put_reg.Reads as put-reg-reads
 use Rattle.registers.proofs.refuse.Reads as refuse-reads
 
--- src/moves.rt:34:11
 get-requires : tie.Need-get-requires
 get-requires c κs = search needs
 
--- src/moves.rt:35:21
 enum-known-v : tie.Need-enum-known-v
 enum-known-v c = search needs
 
--- src/moves.rt:37:20
 add-t : tie.Need-add-t
 add-t c = let s = c .before .before .before .before .before in omega (arith, sp-fits (s .args .cells .now) (s .args .s .sp) (c .before .before .v .given .0 .0) (s .pre) (sym (c .before .before .before .before .get .ensures) ∙ c .before .before .v .given .1))
 
--- src/moves.rt:38:13
 put-reg-requires : tie.Need-put-reg-requires
 put-reg-requires c κs = search needs
 
--- src/moves.rt:40:48
 enum-told : tie.Need-enum-told
 enum-told c = search needs
 
--- src/moves.rt:40:27
 refuse-requires : tie.Need-refuse-requires
 refuse-requires c κs = search needs
 
--- src/moves.rt:30:1
 returns : tie.Need-returns
 returns c = let a = c .before .before .before .before .before .before .args in let l = a .cells .now in
     ap (putRes l) (c .put-reg .ensures) ∙ settled-is _ l _ ∙ pop-yes l (a .s) (regAt (a .r)) (c .before .before .before .v .given .0 .0) (sym (c .before .before .before .before .before .get .ensures) ∙ c .before .before .before .v .given .1)
 
--- src/moves.rt:30:1
 returns-2 : tie.Need-returns-2
 returns-2 c = let a = c .before .before .before .before .args in let l = a .cells .now in
     ap (putRes l) (c .refuse .ensures) ∙ pop-no l (a .s) (regAt (a .r)) (sym (c .before .before .before .get .ensures) ∙ c .before .enum-told .given .1)

@@ -12,53 +12,41 @@ use Rattle.memory.proofs.get.Reads as get-reads
 use Rattle.registers.proofs.accept.Reads as accept-reads
 use Rattle.registers.proofs.refuse.Reads as refuse-reads
 
--- src/moves.rt:68:11
 get-requires : tie.Need-get-requires
 get-requires c κs = search needs
 
--- src/moves.rt:69:21
 enum-known-v : tie.Need-enum-known-v
 enum-known-v c = search needs
 
--- src/moves.rt:69:33
 extract-word-requires : tie.Need-extract-word-requires
 extract-word-requires c κs = search needs
 
--- src/moves.rt:70:22
 enum-known-w : tie.Need-enum-known-w
 enum-known-w c = search needs
 
--- src/moves.rt:73:17
 accept-requires : tie.Need-accept-requires
 accept-requires c κs = search needs
 
--- src/moves.rt:75:51
 enum-told : tie.Need-enum-told
 enum-told c = search needs
 
--- src/moves.rt:75:30
 refuse-requires : tie.Need-refuse-requires
 refuse-requires c κs = search needs
 
--- src/moves.rt:77:48
 enum-told-2 : tie.Need-enum-told-2
 enum-told-2 c = search needs
 
--- src/moves.rt:77:27
 refuse-requires-2 : tie.Need-refuse-requires-2
 refuse-requires-2 c κs = search needs
 
--- src/moves.rt:65:1
 returns : tie.Need-returns
 returns c = let a = c .before .before .before .before .before .before .before .before .before .args in let l = a .cells .now in let w = c .before .before .w .given .0 .0 in
     ap (putRes l) (rw (back w (c .before .known-told2 .given .0 .1)) at (c .accept .ensures)) ∙ sr-yes l (a .s) (c .before .before .before .before .before .before .v .given .0 .0) w (sym (c .before .before .before .before .before .before .before .before .get .ensures) ∙ c .before .before .before .before .before .before .v .given .1) (sym (c .before .before .before .before .extract-word .ensures) ∙ c .before .before .w .given .1)
 
--- src/moves.rt:65:1
 returns-2 : tie.Need-returns-2
 returns-2 c = let a = c .before .before .before .before .before .before .before .before .args in let l = a .cells .now in
     ap (putRes l) (c .refuse .ensures) ∙ sr-not l (a .s) (c .before .before .before .before .before .v .given .0 .0) (sym (c .before .before .before .before .before .before .before .get .ensures) ∙ c .before .before .before .before .before .v .given .1) (sym (c .before .before .before .extract-word .ensures) ∙ c .before .enum-told .given .1)
 
--- src/moves.rt:65:1
 returns-3 : tie.Need-returns-3
 returns-3 c = let a = c .before .before .before .before .args in let l = a .cells .now in
     ap (putRes l) (c .refuse2 .ensures) ∙ sr-no l (a .s) (sym (c .before .before .before .get .ensures) ∙ c .before .enum-told2 .given .1)

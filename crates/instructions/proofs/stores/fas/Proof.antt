@@ -24,73 +24,56 @@ use Rattle.registers.proofs.get_reg.Reads as get-reg-reads
 use Rattle.registers.proofs.put_reg.Reads as put-reg-reads
 use Rattle.registers.proofs.refuse.Reads as refuse-reads
 
--- src/stores.rt:115:30
 get-reg-requires : tie.Need-get-reg-requires
 get-reg-requires c κs = search needs
 
--- src/stores.rt:115:11
 resolve-requires : tie.Need-resolve-requires
 resolve-requires c κs = search needs
 
--- src/stores.rt:116:21
 enum-known-n : tie.Need-enum-known-n
 enum-known-n c = search needs
 
--- src/stores.rt:116:33
 get-requires : tie.Need-get-requires
 get-requires c κs = search needs
 
--- src/stores.rt:117:25
 enum-known-v : tie.Need-enum-known-v
 enum-known-v c = search needs
 
--- src/stores.rt:117:41
 put-reg-requires : tie.Need-put-reg-requires
 put-reg-requires c κs = search needs
 
--- src/stores.rt:117:73
 word-cell-requires : tie.Need-word-cell-requires
 word-cell-requires c κs = search needs
 
--- src/stores.rt:117:31
 with-cell-requires : tie.Need-with-cell-requires
 with-cell-requires c κs = search needs
 
--- src/stores.rt:118:62
 enum-told : tie.Need-enum-told
 enum-told c = search needs
 
--- src/stores.rt:118:41
 refuse-requires : tie.Need-refuse-requires
 refuse-requires c κs = search needs
 
--- src/stores.rt:118:31
 with-none-requires : tie.Need-with-none-requires
 with-none-requires c κs = search needs
 
--- src/stores.rt:120:63
 enum-told-2 : tie.Need-enum-told-2
 enum-told-2 c = search needs
 
--- src/stores.rt:120:42
 refuse-requires-2 : tie.Need-refuse-requires-2
 refuse-requires-2 c κs = search needs
 
--- src/stores.rt:120:32
 with-none-requires-2 : tie.Need-with-none-requires-2
 with-none-requires-2 c κs = search needs
 
--- src/stores.rt:111:1
 returns : tie.Need-returns
 returns c = let a = c .before .before .before .before .before .before .before .before .before .before .before .before .before .args in let l = a .cells .now in let e = rw (c .before .before .before .before .before .before .before .before .before .before .before .before .get-reg .ensures, back (a .x .number) (c .before .before .before .before .before .before .before .before .before .before .before .struct-told .given .1 .1 .0 .1)) at (c .before .before .before .before .before .before .before .before .before .before .resolve .ensures) in let n = c .before .before .before .before .before .before .before .before .n .given .0 .0 in
     ap (madeRes l) (c .with-cell .ensures ∙ ap₂ (λ (v : Cell) (q : Put). written n v q) (c .before .word-cell .ensures) (c .before .before .put-reg .ensures)) ∙ settled-is (a .s) (overlay n (word (pos 1)) l) _ ∙ fas-yes l (a .s) (a .x) (regAt (a .r)) n (c .before .before .before .before .v .given .0 .0) (sym e ∙ c .before .before .before .before .before .before .before .before .n .given .1) (sym (c .before .before .before .before .before .before .get .ensures) ∙ c .before .before .before .before .v .given .1)
 
--- src/stores.rt:111:1
 returns-2 : tie.Need-returns-2
 returns-2 c = let a = c .before .before .before .before .before .before .before .before .before .before .before .args in let l = a .cells .now in let e = rw (c .before .before .before .before .before .before .before .before .before .before .get-reg .ensures, back (a .x .number) (c .before .before .before .before .before .before .before .before .before .struct-told .given .1 .1 .0 .1)) at (c .before .before .before .before .before .before .before .before .resolve .ensures) in
     ap (madeRes l) (c .with-none .ensures) ∙ none-written l (c .before .before .before .before .before .before .before .before .before .before .before .pre) (c .before .refuse .result) ∙ ap (putRes l) (c .before .refuse .ensures) ∙ fas-out l (a .s) (a .x) (regAt (a .r)) (c .before .before .before .before .before .before .n .given .0 .0) (sym e ∙ c .before .before .before .before .before .before .n .given .1) (sym (c .before .before .before .before .get .ensures) ∙ c .before .before .enum-told .given .1)
 
--- src/stores.rt:111:1
 returns-3 : tie.Need-returns-3
 returns-3 c = let a = c .before .before .before .before .before .before .before .args in let l = a .cells .now in let e = rw (c .before .before .before .before .before .before .get-reg .ensures, back (a .x .number) (c .before .before .before .before .before .struct-told .given .1 .1 .0 .1)) at (c .before .before .before .before .resolve .ensures) in
     ap (madeRes l) (c .with-none2 .ensures) ∙ none-written l (c .before .before .before .before .before .before .before .pre) (c .before .refuse2 .result) ∙ ap (putRes l) (c .before .refuse2 .ensures) ∙ fas-no l (a .s) (a .x) (regAt (a .r)) (sym e ∙ c .before .before .enum-told2 .given .1)

@@ -14,40 +14,31 @@ use Rattle.instructions.proofs.stores.with_none.Reads as with-none-read
 use Rattle.registers.proofs.get_reg.Reads as get-reg-reads
 use Rattle.registers.proofs.refuse.Reads as refuse-reads
 
--- src/stores.rt:67:42
 get-reg-requires : tie.Need-get-reg-requires
 get-reg-requires c κs = search needs
 
--- src/stores.rt:67:11
 extract-cell-requires : tie.Need-extract-cell-requires
 extract-cell-requires c κs = search needs
 
--- src/stores.rt:68:21
 enum-known-v : tie.Need-enum-known-v
 enum-known-v c = search needs
 
--- src/stores.rt:68:27
 push-cell-requires : tie.Need-push-cell-requires
 push-cell-requires c κs = search needs
 
--- src/stores.rt:69:58
 enum-told : tie.Need-enum-told
 enum-told c = search needs
 
--- src/stores.rt:69:37
 refuse-requires : tie.Need-refuse-requires
 refuse-requires c κs = search needs
 
--- src/stores.rt:69:27
 with-none-requires : tie.Need-with-none-requires
 with-none-requires c κs = search needs
 
--- src/stores.rt:63:1
 returns : tie.Need-returns
 returns c = let a = c .before .before .before .before .before .before .before .args in let l = a .cells .now in let e = rw (c .before .before .before .before .before .before .get-reg .ensures, back (a .x .number) (c .before .before .before .before .before .struct-told .given .1 .1 .0 .1)) at (c .before .before .before .before .extract-cell .ensures) in
     c .push-cell .ensures ∙ push-yes l (a .s) (a .x) (c .before .before .v .given .0 .0) (sym e ∙ c .before .before .v .given .1)
 
--- src/stores.rt:63:1
 returns-2 : tie.Need-returns-2
 returns-2 c = let a = c .before .before .before .before .before .before .before .args in let l = a .cells .now in let e = rw (c .before .before .before .before .before .before .get-reg .ensures, back (a .x .number) (c .before .before .before .before .before .struct-told .given .1 .1 .0 .1)) at (c .before .before .before .before .extract-cell .ensures) in
     ap (madeRes l) (c .with-none .ensures) ∙ none-written l (c .before .before .before .before .before .before .before .pre) (c .before .refuse .result) ∙ ap (putRes l) (c .before .refuse .ensures) ∙ push-no l (a .s) (a .x) (sym e ∙ c .before .before .enum-told .given .1)

@@ -9,15 +9,12 @@ use Rattle.instructions.proofs.stores.push_cell.Lts as lts
 use Rattle.instructions.proofs.stores.write_at.Reads as write-at-reads
 use Rattle.registers.proofs.below.Reads as below-reads
 
--- src/stores.rt:57:9
 below-requires : tie.Need-below-requires
 below-requires c κs = search needs
 
--- src/stores.rt:60:5
 write-at-requires : tie.Need-write-at-requires
 write-at-requires c κs = search needs
 
--- src/stores.rt:53:1
 returns : tie.Need-returns
 returns c = let a = c .before .before .args in let l = a .cells .now in c .write-at .ensures ∙ push-at l (a .s) (c .before .below .result) (a .v) (c .before .below .ensures)
 

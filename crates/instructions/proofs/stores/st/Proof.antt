@@ -17,73 +17,56 @@ use Rattle.memory.proofs.word_cell.Reads as word-cell-reads
 use Rattle.registers.proofs.get_reg.Reads as get-reg-reads
 use Rattle.registers.proofs.refuse.Reads as refuse-reads
 
--- src/stores.rt:78:32
 get-reg-requires : tie.Need-get-reg-requires
 get-reg-requires c κs = search needs
 
--- src/stores.rt:78:11
 extract-word-requires : tie.Need-extract-word-requires
 extract-word-requires c κs = search needs
 
--- src/stores.rt:79:18
 enum-known-w : tie.Need-enum-known-w
 enum-known-w c = search needs
 
--- src/stores.rt:79:49
 get-reg-requires-2 : tie.Need-get-reg-requires-2
 get-reg-requires-2 c κs = search needs
 
--- src/stores.rt:79:30
 resolve-requires : tie.Need-resolve-requires
 resolve-requires c κs = search needs
 
--- src/stores.rt:80:25
 enum-known-n : tie.Need-enum-known-n
 enum-known-n c = search needs
 
--- src/stores.rt:80:53
 word-cell-requires : tie.Need-word-cell-requires
 word-cell-requires c κs = search needs
 
--- src/stores.rt:80:31
 write-at-requires : tie.Need-write-at-requires
 write-at-requires c κs = search needs
 
--- src/stores.rt:81:67
 enum-told : tie.Need-enum-told
 enum-told c = search needs
 
--- src/stores.rt:81:46
 refuse-requires : tie.Need-refuse-requires
 refuse-requires c κs = search needs
 
--- src/stores.rt:81:36
 with-none-requires : tie.Need-with-none-requires
 with-none-requires c κs = search needs
 
--- src/stores.rt:83:57
 enum-told-2 : tie.Need-enum-told-2
 enum-told-2 c = search needs
 
--- src/stores.rt:83:36
 refuse-requires-2 : tie.Need-refuse-requires-2
 refuse-requires-2 c κs = search needs
 
--- src/stores.rt:83:26
 with-none-requires-2 : tie.Need-with-none-requires-2
 with-none-requires-2 c κs = search needs
 
--- src/stores.rt:74:1
 returns : tie.Need-returns
 returns c = let a = c .before .before .before .before .before .before .before .before .before .before .before .before .before .args in let l = a .cells .now in let e₁ = rw (c .before .before .before .before .before .before .before .before .before .before .before .before .get-reg .ensures) at (c .before .before .before .before .before .before .before .before .before .before .before .extract-word .ensures) in let e₂ = rw (c .before .before .before .before .before .before .before .get-reg2 .ensures, back (a .y .number) (c .before .before .before .before .before .before .struct-told .given .1 .1 .0 .1)) at (c .before .before .before .before .before .resolve .ensures) in let w = c .before .before .before .before .before .before .before .before .before .w .given .0 .0 in
     rw (rw (back w (c .before .before .before .before .before .before .before .before .known-told .given .0 .1)) at (c .before .word-cell .ensures)) at (c .write-at .ensures) ∙ st-yes l (a .s) (regAt (a .r)) (a .y) w (c .before .before .before .n .given .0 .0) (sym e₁ ∙ c .before .before .before .before .before .before .before .before .before .w .given .1) (sym e₂ ∙ c .before .before .before .n .given .1)
 
--- src/stores.rt:74:1
 returns-2 : tie.Need-returns-2
 returns-2 c = let a = c .before .before .before .before .before .before .before .before .before .before .before .before .args in let l = a .cells .now in let e₁ = rw (c .before .before .before .before .before .before .before .before .before .before .before .get-reg .ensures) at (c .before .before .before .before .before .before .before .before .before .before .extract-word .ensures) in let e₂ = rw (c .before .before .before .before .before .before .get-reg2 .ensures, back (a .y .number) (c .before .before .before .before .before .struct-told .given .1 .1 .0 .1)) at (c .before .before .before .before .resolve .ensures) in
     ap (madeRes l) (c .with-none .ensures) ∙ none-written l (c .before .before .before .before .before .before .before .before .before .before .before .before .pre) (c .before .refuse .result) ∙ ap (putRes l) (c .before .refuse .ensures) ∙ st-nowhere l (a .s) (regAt (a .r)) (a .y) (c .before .before .before .before .before .before .before .before .w .given .0 .0) (sym e₁ ∙ c .before .before .before .before .before .before .before .before .w .given .1) (sym e₂ ∙ c .before .before .enum-told .given .1)
 
--- src/stores.rt:74:1
 returns-3 : tie.Need-returns-3
 returns-3 c = let a = c .before .before .before .before .before .before .args in let l = a .cells .now in let e₁ = rw (c .before .before .before .before .before .get-reg .ensures) at (c .before .before .before .before .extract-word .ensures) in
     ap (madeRes l) (c .with-none2 .ensures) ∙ none-written l (c .before .before .before .before .before .before .pre) (c .before .refuse2 .result) ∙ ap (putRes l) (c .before .refuse2 .ensures) ∙ st-no l (a .s) (regAt (a .r)) (a .y) (sym e₁ ∙ c .before .before .enum-told2 .given .1)

@@ -20,57 +20,44 @@ use Rattle.registers.proofs.get_reg.Reads as get-reg-reads
 use Rattle.registers.proofs.put_reg.Reads as put-reg-reads
 use Rattle.registers.proofs.refuse.Reads as refuse-reads
 
--- src/stores.rt:143:42
 get-reg-requires : tie.Need-get-reg-requires
 get-reg-requires c κs = search needs
 
--- src/stores.rt:143:11
 extract-cell-requires : tie.Need-extract-cell-requires
 extract-cell-requires c κs = search needs
 
--- src/stores.rt:144:21
 enum-known-v : tie.Need-enum-known-v
 enum-known-v c = search needs
 
--- src/stores.rt:145:17
 put-reg-requires : tie.Need-put-reg-requires
 put-reg-requires c κs = search needs
 
--- src/stores.rt:149:40
 get-reg-requires-2 : tie.Need-get-reg-requires-2
 get-reg-requires-2 c κs = search needs
 
--- src/stores.rt:149:17
 swap-back-requires : tie.Need-swap-back-requires
 swap-back-requires c κs = search needs
 
--- src/stores.rt:151:17
 with-none-requires : tie.Need-with-none-requires
 with-none-requires c κs = search needs
 
--- src/stores.rt:154:58
 enum-told : tie.Need-enum-told
 enum-told c = search needs
 
--- src/stores.rt:154:37
 refuse-requires : tie.Need-refuse-requires
 refuse-requires c κs = search needs
 
--- src/stores.rt:154:27
 with-none-requires-2 : tie.Need-with-none-requires-2
 with-none-requires-2 c κs = search needs
 
--- src/stores.rt:139:1
 returns : tie.Need-returns
 returns c = let a = c .before .before .before .before .before .before .before .before .before .before .before .args in let l = a .cells .now in let e = rw (c .before .before .before .before .before .before .before .before .before .before .get-reg .ensures, back (a .x .number) (c .before .before .before .before .before .before .before .before .before .struct-told .given .1 .1 .0 .1)) at (c .before .before .before .before .before .before .before .before .extract-cell .ensures) in let q = c .before .before .before .before .put-reg .result in
     c .swap-back .ensures ∙ ap (λ (v : Cell). swapBack (argOf (a .x)) v (core l (q .s))) (c .before .get-reg2 .ensures) ∙ swap-yes l (a .s) (a .x) (regAt (a .r)) (c .before .before .before .before .before .before .v .given .0 .0) (sym e ∙ c .before .before .before .before .before .before .v .given .1) q (c .before .before .before .before .put-reg .ensures) (c .before .before .if1 .taken)
 
--- src/stores.rt:139:1
 returns-2 : tie.Need-returns-2
 returns-2 c = let a = c .before .before .before .before .before .before .before .before .before .before .args in let l = a .cells .now in let e = rw (c .before .before .before .before .before .before .before .before .before .get-reg .ensures, back (a .x .number) (c .before .before .before .before .before .before .before .before .struct-told .given .1 .1 .0 .1)) at (c .before .before .before .before .before .before .before .extract-cell .ensures) in let q = c .before .before .before .put-reg .result in
     ap (madeRes l) (c .with-none .ensures) ∙ none-written l (c .before .before .before .before .before .before .before .before .before .before .pre) q ∙ swap-not l (a .s) (a .x) (regAt (a .r)) (c .before .before .before .before .before .v .given .0 .0) (sym e ∙ c .before .before .before .before .before .v .given .1) q (c .before .before .before .put-reg .ensures) (c .before .if1 .left)
 
--- src/stores.rt:139:1
 returns-3 : tie.Need-returns-3
 returns-3 c = let a = c .before .before .before .before .before .before .before .args in let l = a .cells .now in let e = rw (c .before .before .before .before .before .before .get-reg .ensures, back (a .x .number) (c .before .before .before .before .before .struct-told .given .1 .1 .0 .1)) at (c .before .before .before .before .extract-cell .ensures) in
     ap (madeRes l) (c .with-none2 .ensures) ∙ none-written l (c .before .before .before .before .before .before .before .pre) (c .before .refuse .result) ∙ ap (putRes l) (c .before .refuse .ensures) ∙ swap-no l (a .s) (a .x) (regAt (a .r)) (sym e ∙ c .before .before .enum-told .given .1)

@@ -16,52 +16,40 @@ use Rattle.registers.proofs.get_reg.Reads as get-reg-reads
 use Rattle.registers.proofs.put_reg.Reads as put-reg-reads
 use Rattle.registers.proofs.refuse.Reads as refuse-reads
 
--- src/stores.rt:130:26
 put-reg-requires : tie.Need-put-reg-requires
 put-reg-requires c κs = search needs
 
--- src/stores.rt:130:9
 with-none-requires : tie.Need-with-none-requires
 with-none-requires c κs = search needs
 
--- src/stores.rt:130:9
 returns : tie.Need-returns
 returns c = let a = c .before .before .before .before .args in let l = a .cells .now in ap (madeRes l) (c .with-none .ensures) ∙ none-written l (c .before .before .before .before .pre) (c .before .put-reg .result) ∙ ap (putRes l) (c .before .put-reg .ensures) ∙ settled-is (a .s) l _ ∙ back-reg l (a .s) (a .x) (a .v) (c .before .before .if1 .taken)
 
--- src/stores.rt:132:30
 get-reg-requires : tie.Need-get-reg-requires
 get-reg-requires c κs = search needs
 
--- src/stores.rt:132:11
 resolve-requires : tie.Need-resolve-requires
 resolve-requires c κs = search needs
 
--- src/stores.rt:133:21
 enum-known-n : tie.Need-enum-known-n
 enum-known-n c = search needs
 
--- src/stores.rt:133:27
 write-at-requires : tie.Need-write-at-requires
 write-at-requires c κs = search needs
 
--- src/stores.rt:134:63
 enum-told : tie.Need-enum-told
 enum-told c = search needs
 
--- src/stores.rt:134:42
 refuse-requires : tie.Need-refuse-requires
 refuse-requires c κs = search needs
 
--- src/stores.rt:134:32
 with-none-requires-2 : tie.Need-with-none-requires-2
 with-none-requires-2 c κs = search needs
 
--- src/stores.rt:125:1
 returns-2 : tie.Need-returns-2
 returns-2 c = let a = c .before .before .before .before .before .before .before .before .before .args in let l = a .cells .now in let e = rw (c .before .before .before .before .before .before .get-reg .ensures, back (a .x .number) (c .before .before .before .before .before .struct-told .given .1 .1 .0 .1)) at (c .before .before .before .before .resolve .ensures) in
     c .write-at .ensures ∙ back-yes l (a .s) (a .x) (a .v) (c .before .before .before .before .before .before .before .if1 .left) (c .before .before .n .given .0 .0) (sym e ∙ c .before .before .n .given .1)
 
--- src/stores.rt:125:1
 returns-3 : tie.Need-returns-3
 returns-3 c = let a = c .before .before .before .before .before .before .before .before .before .args in let l = a .cells .now in let e = rw (c .before .before .before .before .before .before .get-reg .ensures, back (a .x .number) (c .before .before .before .before .before .struct-told .given .1 .1 .0 .1)) at (c .before .before .before .before .resolve .ensures) in
     ap (madeRes l) (c .with-none2 .ensures) ∙ none-written l (c .before .before .before .before .before .before .before .before .before .pre) (c .before .refuse .result) ∙ ap (putRes l) (c .before .refuse .ensures) ∙ back-no l (a .s) (a .x) (a .v) (c .before .before .before .before .before .before .before .if1 .left) (sym e ∙ c .before .before .enum-told .given .1)

@@ -13,27 +13,21 @@ use Rattle.instructions.proofs.stores.with_none.Reads as with-none-read
 use Rattle.registers.proofs.accept.Reads as accept-reads
 use Rattle.registers.proofs.refuse.Reads as refuse-reads
 
--- src/stores.rt:46:19
 accept-requires : tie.Need-accept-requires
 accept-requires c κs = search needs
 
--- src/stores.rt:46:9
 with-cell-requires : tie.Need-with-cell-requires
 with-cell-requires c κs = search needs
 
--- src/stores.rt:48:19
 refuse-requires : tie.Need-refuse-requires
 refuse-requires c κs = search needs
 
--- src/stores.rt:48:9
 with-none-requires : tie.Need-with-none-requires
 with-none-requires c κs = search needs
 
--- src/stores.rt:40:1
 returns : tie.Need-returns
 returns c = let a = c .before .before .before .args in let l = a .cells .now in ap (madeRes l) (c .with-cell .ensures ∙ ap (written (a .n) (a .v)) (c .before .accept .ensures)) ∙ write-in l (a .s) (a .n) (a .v) (omega arith)
 
--- src/stores.rt:40:1
 returns-2 : tie.Need-returns-2
 returns-2 c = let a = c .before .before .before .args in let l = a .cells .now in ap (madeRes l) (c .with-none .ensures) ∙ none-written l (c .before .before .before .pre) (c .before .refuse .result) ∙ ap (putRes l) (c .before .refuse .ensures) ∙ write-out l (a .s) (a .n) (a .v) (omega arith)
 

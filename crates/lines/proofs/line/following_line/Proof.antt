@@ -6,16 +6,13 @@ use Rattle.lines.proofs.line.following_line.Tie as tie
 use Rattle.lines.proofs.line.following_line.Reads as reads
 use Rattle.lines.proofs.line.following_line.Lts as lts
 
--- src/line.rt:17:16
 add-result : tie.Need-add-result
 add-result c = search needs
 
--- src/line.rt:17:9
 returns : tie.Need-returns
 unfolding following
 returns c = simp (lt-ltb _ _ (c .if1 .taken))
 
--- src/line.rt:13:1
 returns-2 : tie.Need-returns-2
 unfolding following
 returns-2 c = simp (le-ltb _ _ (c .if1 .left))

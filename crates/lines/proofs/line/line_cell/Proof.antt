@@ -6,11 +6,9 @@ use Rattle.lines.proofs.line.line_cell.Reads as reads
 use Rattle.lines.proofs.line.line_cell.Lts as lts
 use Rattle.lines.proofs.value_of.Reads as value-of-reads
 
--- src/line.rt:64:17
 value-of-requires : tie.Need-value-of-requires
 value-of-requires c κs = search needs
 
--- src/line.rt:56:1
 returns : tie.Need-returns
 returns c = let l = c .before .before .before .before .args .r .last in
     let g = c .struct-told .given in

@@ -6,11 +6,9 @@ use Rattle.lines.proofs.line.next_line.Reads as reads
 use Rattle.lines.proofs.line.next_line.Lts as lts
 use Rattle.lines.proofs.line.following_line.Reads as following-line-reads
 
--- src/line.rt:27:5
 following-line-requires : tie.Need-following-line-requires
 following-line-requires c κs = search needs
 
--- src/line.rt:23:1
 returns : tie.Need-returns
 unfolding next
 returns c = rw (c .following-line .ensures)

@@ -22,23 +22,18 @@ use Rattle.memory.proofs.put_cell.Reads as put-cell-reads
 use Rattle.checks.proofs.is_below.Reads as is-below-reads
 use Rattle.word.proofs.magnitude.Reads as magnitude-reads
 
--- src/line.rt:75:9
 line-cell-requires : tie.Need-line-cell-requires
 line-cell-requires c κs = search needs
 
--- src/line.rt:76:8
 is-below-requires : tie.Need-is-below-requires
 is-below-requires c κs = search needs
 
--- src/line.rt:77:12
 sound-cell-requires : tie.Need-sound-cell-requires
 sound-cell-requires c κs = search needs
 
--- src/line.rt:78:17
 magnitude-requires : tie.Need-magnitude-requires
 magnitude-requires c κs = search needs
 
--- src/line.rt:79:13
 put-cell-requires : tie.Need-put-cell-requires
 put-cell-requires c κs = let a = c .before .before .before .before .before .before .before .before .before .args in
     let x = a .r .last .x in
@@ -49,15 +44,12 @@ put-cell-requires c κs = let a = c .before .before .before .before .before .bef
     let p = c .before .before .before .before .before .before .before .before .before .pre .0 in
     omega arith
 
--- src/line.rt:80:13
 next-line-requires : tie.Need-next-line-requires
 next-line-requires c κs = search needs
 
--- src/line.rt:80:13
 same-length : tie.Need-same-length
 same-length c = search needs
 
--- src/line.rt:80:13
 returns : tie.Need-returns
 returns c = let a = c .before .before .before .before .before .before .before .before .before .before .before .before .args in
     let x = a .r .last .x in
@@ -68,11 +60,9 @@ returns c = let a = c .before .before .before .before .before .before .before .b
     let n : c .before .before .before .before .magnitude .result ≡ natAbs x = c .before .before .before .before .magnitude .ensures ∙ ap natAbs b in
     rw (c .next-line .ensures, c .before .before .put-cell .ensures, n, v) (sym (cell-put (a .r) (a .cells .now) t s))
 
--- src/line.rt:82:9
 break-line-requires : tie.Need-break-line-requires
 break-line-requires c κs = search needs
 
--- src/line.rt:82:9
 returns-2 : tie.Need-returns-2
 returns-2 c = let a = c .before .before .before .before .before .before .before .before .args in
     let x = a .r .last .x in
@@ -81,11 +71,9 @@ returns-2 c = let a = c .before .before .before .before .before .before .before 
     let s : sound (lineCell (a .r)) ≡ false = ap sound (sym (c .before .before .before .before .before .line-cell .ensures)) ∙ sym (c .before .before .sound-cell .ensures) ∙ c .before .if2 .left in
     ap (λ (q : Reader). state q (a .cells .now)) (c .break-line .ensures) ∙ sym (cell-damaged (a .r) (a .cells .now) t s)
 
--- src/line.rt:84:5
 break-line-requires-2 : tie.Need-break-line-requires-2
 break-line-requires-2 c κs = search needs
 
--- src/line.rt:69:1
 returns-3 : tie.Need-returns-3
 returns-3 c = let a = c .before .before .before .before .before .before .args in
     let x = a .r .last .x in

@@ -14,38 +14,30 @@ use Rattle.lines.proofs.break_line.Reads as break-line-reads
 use Rattle.lines.proofs.line.take_cell.Reads as take-cell-reads
 use Rattle.lines.proofs.line.take_start.Reads as take-start-reads
 
--- src/line.rt:87:9
 returns : tie.Need-returns
 unfolding lineEnd
 returns c = rw (c .if1 .taken)
 
--- src/line.rt:91:13
 take-start-requires : tie.Need-take-start-requires
 take-start-requires c κs = search needs
 
--- src/line.rt:91:13
 returns-2 : tie.Need-returns-2
 returns-2 c = let a = c .before .before .before .before .before .before .before .before .args in
     rw (c .take-start .ensures) (sym (ends-start (a .r) (a .cells .now) (c .before .before .before .before .before .before .if1 .left) (c .before .before .before .if2 .taken) (c .before .if3 .taken)))
 
--- src/line.rt:93:9
 take-cell-requires : tie.Need-take-cell-requires
 take-cell-requires c κs = search needs
 
--- src/line.rt:93:9
 same-length : tie.Need-same-length
 same-length c = search needs
 
--- src/line.rt:93:9
 returns-3 : tie.Need-returns-3
 returns-3 c = let a = c .before .before .before .before .before .before .before .before .before .before .args in
     c .before .take-cell .ensures ∙ sym (ends-cell (a .r) (a .cells .now) (c .before .before .before .before .before .before .before .before .if1 .left) (c .before .before .before .before .before .if2 .taken) (c .before .before .before .if3 .left))
 
--- src/line.rt:95:5
 break-line-requires : tie.Need-break-line-requires
 break-line-requires c κs = search needs
 
--- src/line.rt:81:1
 returns-4 : tie.Need-returns-4
 unfolding lineEnd
 returns-4 c = rw (c .before .before .before .before .if1 .left, c .before .if2 .left, c .break-line .ensures)

@@ -15,23 +15,18 @@ use Rattle.lines.proofs.break_line.Reads as break-line-reads
 use Rattle.lines.proofs.line.next_line.Reads as next-line-reads
 use Rattle.lines.proofs.value_of.Reads as value-of-reads
 
--- src/line.rt:46:8
 is-address-requires : tie.Need-is-address-requires
 is-address-requires c κs = search needs
 
--- src/line.rt:46:35
 is-address-requires-2 : tie.Need-is-address-requires-2
 is-address-requires-2 c κs = search needs
 
--- src/line.rt:47:13
 value-of-requires : tie.Need-value-of-requires
 value-of-requires c κs = search needs
 
--- src/line.rt:48:13
 next-line-requires : tie.Need-next-line-requires
 next-line-requires c κs = search needs
 
--- src/line.rt:51:9
 returns : tie.Need-returns
 unfolding startLine
 returns c = let l = c .before .before .before .before .before .before .before .before .before .args .r .last in
@@ -44,11 +39,9 @@ returns c = let l = c .before .before .before .before .before .before .before .b
     let t : (isAddress (addressOf (l .y)) && isAddress (addressOf (l .z))) ≡ true = (λ i. sym ey i && sym ez i) ∙ c .before .before .if1 .taken in
     rw (by, bz, back (w .result) (w .ok), w .ensures, c .next-line .ensures, t)
 
--- src/line.rt:53:5
 break-line-requires : tie.Need-break-line-requires
 break-line-requires c κs = search needs
 
--- src/line.rt:39:1
 returns-2 : tie.Need-returns-2
 unfolding startLine
 returns-2 c = let l = c .before .before .before .before .before .before .before .before .args .r .last in

@@ -11,26 +11,21 @@ use Rattle.lines.proofs.part.take_byte.Lts as lts
 use Rattle.lines.proofs.line.take_line_end.Reads as take-line-end-reads
 use Rattle.lines.proofs.take_within.Reads as take-within-reads
 
--- src/part.rt:16:9
 take-line-end-requires : tie.Need-take-line-end-requires
 take-line-end-requires c κs = search needs
 
--- src/part.rt:16:9
 same-length : tie.Need-same-length
 same-length c = search needs
 
--- src/part.rt:16:9
 returns : tie.Need-returns
 unfolding step
 returns c = let b = c .before .before .before .before .args .b in
     let t : eqb b 10 ≡ true = eq-eqb b 10 (c .before .before .before .if1 .taken) in
     simp t (c .before .take-line-end .ensures)
 
--- src/part.rt:18:5
 take-within-requires : tie.Need-take-within-requires
 take-within-requires c κs = search needs
 
--- src/part.rt:11:1
 returns-2 : tie.Need-returns-2
 unfolding step
 returns-2 c = let b = c .before .before .args .b in

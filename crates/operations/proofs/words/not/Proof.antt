@@ -17,40 +17,31 @@ use Rattle.registers.proofs.get_reg.Reads as get-reg-reads
 use Rattle.registers.proofs.refuse.Reads as refuse-reads
 use Rattle.word.proofs.not.Reads as not-reads
 
--- src/words.rt:169:32
 get-reg-requires : tie.Need-get-reg-requires
 get-reg-requires c κs = search needs
 
--- src/words.rt:169:11
 extract-word-requires : tie.Need-extract-word-requires
 extract-word-requires c κs = search needs
 
--- src/words.rt:170:18
 enum-known-w : tie.Need-enum-known-w
 enum-known-w c = search needs
 
--- src/words.rt:170:48
 not-requires : tie.Need-not-requires
 not-requires c κs = search needs
 
--- src/words.rt:170:24
 put-result-requires : tie.Need-put-result-requires
 put-result-requires c κs = search needs
 
--- src/words.rt:171:47
 enum-told : tie.Need-enum-told
 enum-told c = search needs
 
--- src/words.rt:171:26
 refuse-requires : tie.Need-refuse-requires
 refuse-requires c κs = search needs
 
--- src/words.rt:166:1
 returns : tie.Need-returns
 returns c = λ l. let a = c .before .before .before .before .before .before .before .args in let w = c .before .before .before .w .given .0 .0 in
     ap (putRes l) (rw (back (c .before .not .result) (c .before .not .ok)) at (c .put-result .ensures) ∙ ap (λ (y : ℤ). settled (a .s) (putResult (regAt (a .r)) y (a .s))) (rw (back w (c .before .before .known-told .given .0 .1)) at (c .before .not .ensures))) ∙ settled-is (a .s) l _ ∙ not-yes l (a .s) (regAt (a .r)) w (sym (rw (c .before .before .before .before .before .before .get-reg .ensures) at (c .before .before .before .before .before .extract-word .ensures)) ∙ c .before .before .before .w .given .1)
 
--- src/words.rt:166:1
 returns-2 : tie.Need-returns-2
 returns-2 c = λ l. let a = c .before .before .before .before .before .args in
     ap (putRes l) (c .refuse .ensures) ∙ not-no l (a .s) (regAt (a .r)) (sym (rw (c .before .before .before .before .get-reg .ensures) at (c .before .before .before .extract-word .ensures)) ∙ c .before .enum-told .given .1)

@@ -25,32 +25,26 @@ no-detail e = let z : _≡_ {A = ℕ} 0 1 = cc in omega arith
 no-count : F.Count ≡ F.Nothing → ⊥
 no-count e = let z : _≡_ {A = ℕ} 0 1 = cc in omega arith
 
--- src/compare.rt:19:9
 returns : tie.Need-returns
 returns c =
     ((λ e. absurd (no-refusal e)), λ e. absurd (c .if1 .taken (ap (λ (a : Answer). a .refusal) e)))
 
--- src/compare.rt:22:9
 returns-2 : tie.Need-returns-2
 returns-2 c =
     ((λ e. absurd (no-place e)), λ e. absurd (c .if2 .taken (ap (λ (a : Answer). a .place) e)))
 
--- src/compare.rt:25:9
 returns-3 : tie.Need-returns-3
 returns-3 c =
     ((λ e. absurd (no-stop e)), λ e. absurd (c .if3 .taken (ap (λ (a : Answer). a .stop) e)))
 
--- src/compare.rt:28:9
 returns-4 : tie.Need-returns-4
 returns-4 c =
     ((λ e. absurd (no-detail e)), λ e. absurd (c .if4 .taken (ap (λ (a : Answer). a .detail) e)))
 
--- src/compare.rt:31:9
 returns-5 : tie.Need-returns-5
 returns-5 c =
     ((λ e. absurd (no-count e)), λ e. absurd (c .if5 .taken (ap (λ (a : Answer). a .count) e)))
 
--- src/compare.rt:15:1
 returns-6 : tie.Need-returns-6
 returns-6 c = ((λ e. λ i. record { refusal = c .before .before .before .before .before .before .before .before .before .before .before .before .if1 .left i; place = c .before .before .before .before .before .before .before .before .before .if2 .left i; stop = c .before .before .before .before .before .before .if3 .left i; detail = c .before .before .before .if4 .left i; count = c .if5 .left i }), λ e. refl)
 

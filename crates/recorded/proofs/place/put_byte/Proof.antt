@@ -12,67 +12,52 @@ use Rattle.recorded.proofs.place.put_byte.Reads as reads
 use Rattle.recorded.proofs.place.put_byte.Lts as lts
 use Rattle.word.proofs.to_address.Reads as to-address-reads
 
--- src/place.rt:50:27
 to-address-requires : tie.Need-to-address-requires
 to-address-requires c κs = search needs
 
--- src/place.rt:50:21
 enum-known-at : tie.Need-enum-known-at
 enum-known-at c = search needs
 
--- src/place.rt:51:9
 enum-told : tie.Need-enum-told
 enum-told c = search needs
 
--- src/place.rt:51:9
 returns : tie.Need-returns
 returns c = let a = c .before .before .before .before .args in
     sym (ap (λ (x : Address). bytePut x (addressOf (a .byte)) (a .n) (a .bytes .now)) (sym (rw (toZ-ofZ (c .before .before .before .before .fits .index)) at (c .before .before .to-address .ensures)) ∙ c .enum-told .given .1))
 
--- src/place.rt:53:26
 to-address-requires-2 : tie.Need-to-address-requires-2
 to-address-requires-2 c κs = search needs
 
--- src/place.rt:53:21
 enum-known-b : tie.Need-enum-known-b
 enum-known-b c = search needs
 
--- src/place.rt:54:9
 enum-told-2 : tie.Need-enum-told-2
 enum-told-2 c = search needs
 
--- src/place.rt:54:9
 returns-2 : tie.Need-returns-2
 returns-2 c = let a = c .before .before .before .before .before .before .before .before .args in
     sym (ap (λ (x : Address). bytePut x (addressOf (a .byte)) (a .n) (a .bytes .now)) (sym (rw (toZ-ofZ (c .before .before .before .before .before .before .before .before .fits .index)) at (c .before .before .before .before .before .before .to-address .ensures)) ∙ c .before .before .before .before .at .given .1) ∙ ap (λ (y : Address). bytePut (A.At (c .before .before .before .before .at .given .0 .0)) y (a .n) (a .bytes .now)) (sym (rw (toZ-ofZ (c .before .before .before .before .before .before .before .before .fits .byte)) at (c .before .before .to-address2 .ensures)) ∙ c .enum-told2 .given .1))
 
--- src/place.rt:56:13
 cast-i : tie.Need-cast-i
 cast-i c = search needs
 
--- src/place.rt:59:24
 cast-bytes : tie.Need-cast-bytes
 cast-bytes c = search needs
 
--- src/place.rt:59:13
 slice-write-bytes : tie.Need-slice-write-bytes
 slice-write-bytes c = search needs
 
--- src/place.rt:60:13
 same-length : tie.Need-same-length
 same-length c = search needs
 
--- src/place.rt:60:13
 returns-3 : tie.Need-returns-3
 returns-3 c = let a = c .before .before .before .before .before .before .before .before .before .before .before .args in
     sym (ap (λ (x : Address). bytePut x (addressOf (a .byte)) (a .n) (a .bytes .now)) (sym (rw (toZ-ofZ (c .before .before .before .before .before .before .before .before .before .before .before .fits .index)) at (c .before .before .before .before .before .before .before .before .before .to-address .ensures)) ∙ c .before .before .before .before .before .before .before .at .given .1) ∙ ap (λ (y : Address). bytePut (A.At (c .before .before .before .before .before .before .before .at .given .0 .0)) y (a .n) (a .bytes .now)) (sym (rw (toZ-ofZ (c .before .before .before .before .before .before .before .before .before .before .before .fits .byte)) at (c .before .before .before .before .before .to-address2 .ensures)) ∙ c .before .before .before .b .given .1) ∙ simp (lt-ltb _ _ (c .before .if1 .taken), lt-ltb _ _ (c .if2 .taken)))
 
--- src/place.rt:46:1
 returns-4 : tie.Need-returns-4
 returns-4 c = let a = c .before .before .before .before .before .before .before .before .before .before .before .args in
     sym (ap (λ (x : Address). bytePut x (addressOf (a .byte)) (a .n) (a .bytes .now)) (sym (rw (toZ-ofZ (c .before .before .before .before .before .before .before .before .before .before .before .fits .index)) at (c .before .before .before .before .before .before .before .before .before .to-address .ensures)) ∙ c .before .before .before .before .before .before .before .at .given .1) ∙ ap (λ (y : Address). bytePut (A.At (c .before .before .before .before .before .before .before .at .given .0 .0)) y (a .n) (a .bytes .now)) (sym (rw (toZ-ofZ (c .before .before .before .before .before .before .before .before .before .before .before .fits .byte)) at (c .before .before .before .before .before .to-address2 .ensures)) ∙ c .before .before .before .b .given .1) ∙ simp (lt-ltb _ _ (c .before .if1 .taken), le-ltb _ _ (c .if2 .left)))
 
--- src/place.rt:46:1
 returns-5 : tie.Need-returns-5
 returns-5 c = let a = c .before .before .before .before .before .before .before .before .before .before .args in
     sym (ap (λ (x : Address). bytePut x (addressOf (a .byte)) (a .n) (a .bytes .now)) (sym (rw (toZ-ofZ (c .before .before .before .before .before .before .before .before .before .before .fits .index)) at (c .before .before .before .before .before .before .before .before .to-address .ensures)) ∙ c .before .before .before .before .before .before .at .given .1) ∙ ap (λ (y : Address). bytePut (A.At (c .before .before .before .before .before .before .at .given .0 .0)) y (a .n) (a .bytes .now)) (sym (rw (toZ-ofZ (c .before .before .before .before .before .before .before .before .before .before .fits .byte)) at (c .before .before .before .before .to-address2 .ensures)) ∙ c .before .before .b .given .1) ∙ simp (le-ltb _ _ (c .if1 .left)))

@@ -11,70 +11,54 @@ use Rattle.recorded.proofs.place.put_cell.Reads as reads
 use Rattle.recorded.proofs.place.put_cell.Lts as lts
 use Rattle.word.proofs.to_address.Reads as to-address-reads
 
--- src/place.rt:13:26
 to-address-requires : tie.Need-to-address-requires
 to-address-requires c κs = search needs
 
--- src/place.rt:13:21
 enum-known-n : tie.Need-enum-known-n
 enum-known-n c = search needs
 
--- src/place.rt:14:9
 enum-told : tie.Need-enum-told
 enum-told c = search needs
 
--- src/place.rt:14:9
 returns : tie.Need-returns
 returns c = let a = c .before .before .before .args in
     sym (ap (λ (x : Address). cellPut x (a .tag) (a .first) (a .second) (a .cells .now)) (sym (rw (toZ-ofZ (c .before .before .before .fits .address)) at (c .before .before .to-address .ensures)) ∙ c .enum-told .given .1))
 
--- src/place.rt:16:13
 cast-i : tie.Need-cast-i
 cast-i c = search needs
 
--- src/place.rt:18:18
 mul-at : tie.Need-mul-at
 mul-at c = search needs
 
--- src/place.rt:19:9
 mul-tag : tie.Need-mul-tag
 mul-tag c = search needs
 
--- src/place.rt:19:9
 element-set-from-tag : tie.Need-element-set-from-tag
 element-set-from-tag c = search needs
 
--- src/place.rt:20:15
 add-first : tie.Need-add-first
 add-first c = search needs
 
--- src/place.rt:20:9
 mul-first : tie.Need-mul-first
 mul-first c = search needs
 
--- src/place.rt:20:9
 element-set-from-first : tie.Need-element-set-from-first
 element-set-from-first c = search needs
 
--- src/place.rt:21:15
 add-second : tie.Need-add-second
 add-second c = search needs
 
--- src/place.rt:21:9
 mul-second : tie.Need-mul-second
 mul-second c = search needs
 
--- src/place.rt:21:9
 element-set-from-second : tie.Need-element-set-from-second
 element-set-from-second c = search needs
 
--- src/place.rt:22:9
 returns-2 : tie.Need-returns-2
 returns-2 c = let a = c .before .before .before .before .before .args in
     let f = c .before .before .before .before .before .fits in
     rw (toZ-ofZ (f .tag), toZ-ofZ (f .first), toZ-ofZ (f .second)) (sym (ap (λ (x : Address). cellPut x (a .tag) (a .first) (a .second) (a .cells .now)) (sym (rw (toZ-ofZ (f .address)) at (c .before .before .before .before .to-address .ensures)) ∙ c .before .before .n .given .1) ∙ simp (lt-ltb _ _ (c .if1 .taken))))
 
--- src/place.rt:10:1
 returns-3 : tie.Need-returns-3
 returns-3 c = let a = c .before .before .before .before .before .args in
     sym (ap (λ (x : Address). cellPut x (a .tag) (a .first) (a .second) (a .cells .now)) (sym (rw (toZ-ofZ (c .before .before .before .before .before .fits .address)) at (c .before .before .before .before .to-address .ensures)) ∙ c .before .before .n .given .1) ∙ simp (le-ltb _ _ (c .if1 .left)))

@@ -12,43 +12,33 @@ use Rattle.recorded.proofs.place.put_number.Reads as reads
 use Rattle.recorded.proofs.place.put_number.Lts as lts
 use Rattle.word.proofs.to_address.Reads as to-address-reads
 
--- src/place.rt:31:26
 to-address-requires : tie.Need-to-address-requires
 to-address-requires c κs = search needs
 
--- src/place.rt:31:21
 enum-known-n : tie.Need-enum-known-n
 enum-known-n c = search needs
 
--- src/place.rt:32:9
 enum-told : tie.Need-enum-told
 enum-told c = search needs
 
--- src/place.rt:32:9
 returns : tie.Need-returns
 returns c = sym (ap (λ (x : Address). numberPut x (c .before .before .before .args .z) (c .before .before .before .args .row .now)) (sym (rw (toZ-ofZ (c .before .before .before .fits .place)) at (c .before .before .to-address .ensures)) ∙ c .enum-told .given .1))
 
--- src/place.rt:34:13
 cast-i : tie.Need-cast-i
 cast-i c = search needs
 
--- src/place.rt:36:9
 returns-2 : tie.Need-returns-2
 returns-2 c = sym (ap (λ (x : Address). numberPut x (c .before .before .before .before .before .args .z) (c .before .before .before .before .before .args .row .now)) (sym (rw (toZ-ofZ (c .before .before .before .before .before .fits .place)) at (c .before .before .before .before .to-address .ensures)) ∙ c .before .before .n .given .1) ∙ simp (lt-ltb _ _ (c .if1 .taken)))
 
--- src/place.rt:39:9
 returns-3 : tie.Need-returns-3
 returns-3 c = sym (ap (λ (x : Address). numberPut x (c .before .before .before .before .before .before .args .z) (c .before .before .before .before .before .before .args .row .now)) (sym (rw (toZ-ofZ (c .before .before .before .before .before .before .fits .place)) at (c .before .before .before .before .before .to-address .ensures)) ∙ c .before .before .before .n .given .1) ∙ simp (le-ltb _ _ (c .before .if1 .left), lt-ltb _ _ (c .if2 .taken)))
 
--- src/place.rt:41:5
 mul-z : tie.Need-mul-z
 mul-z c = search needs
 
--- src/place.rt:41:5
 element-set-from-z : tie.Need-element-set-from-z
 element-set-from-z c = search needs
 
--- src/place.rt:28:1
 returns-4 : tie.Need-returns-4
 returns-4 c = rw (toZ-ofZ (c .before .before .before .before .before .before .fits .z)) (sym (ap (λ (x : Address). numberPut x (c .before .before .before .before .before .before .args .z) (c .before .before .before .before .before .before .args .row .now)) (sym (rw (toZ-ofZ (c .before .before .before .before .before .before .fits .place)) at (c .before .before .before .before .before .to-address .ensures)) ∙ c .before .before .before .n .given .1) ∙ simp (le-ltb _ _ (c .before .if1 .left), le-ltb _ _ (c .if2 .left))))
 

@@ -22,51 +22,40 @@ Inv-loop a b i₀ i = (i ≤ length a) × ((k : ℕ) → k < i → getD a k (pos
 abbrev μ-loop : tie.MeasureT-loop
 μ-loop a b i₀ i = length a - i
 
--- src/same.rt:9:9
 returns : tie.Need-returns Inv-loop μ-loop
 returns c = ((λ e. absurd (true≢false (sym e))), λ e. absurd (c .if1 .taken (ap length e)))
 
--- src/same.rt:12:5
 loop-holds : tie.Need-loop-holds Inv-loop μ-loop
 loop-holds c = (search needs, λ k h. absurd (omega arith))
 
--- src/same.rt:13:17
 mul-x : tie.Need-mul-x Inv-loop μ-loop
 mul-x c = search needs
 
--- src/same.rt:13:17
 shared-slice-copy-out-x : tie.Need-shared-slice-copy-out-x Inv-loop μ-loop
 shared-slice-copy-out-x c = search needs
 
--- src/same.rt:14:17
 mul-y : tie.Need-mul-y Inv-loop μ-loop
 mul-y c = search needs
 
--- src/same.rt:14:17
 shared-slice-copy-out-y : tie.Need-shared-slice-copy-out-y Inv-loop μ-loop
 shared-slice-copy-out-y c = search needs
 
--- src/same.rt:16:13
 returns-2 : tie.Need-returns-2 Inv-loop μ-loop
 returns-2 c =
     let i = c .before .before .before .before .loop .i in
     ((λ e. absurd (true≢false (sym e))), λ e. absurd (c .if2 .taken (ap (λ (l : List ℤ). ofZ w64 (getD l i (pos 0))) e)))
 
--- src/same.rt:18:9
 add-i : tie.Need-add-i Inv-loop μ-loop
 add-i c = search needs
 
--- src/same.rt:12:5
 loop-less : tie.Need-loop-less Inv-loop μ-loop
 loop-less c = search needs
 
--- src/same.rt:12:5
 loop-again : tie.Need-loop-again Inv-loop μ-loop
 loop-again c =
     let e : getD (c .before .before .before .before .before .before .args .a .now) (c .before .before .before .before .loop .i) (pos 0) ≡ getD (c .before .before .before .before .before .before .args .b .now) (c .before .before .before .before .loop .i) (pos 0) = sym (toZ-ofZ {w = w64} (record { sfits = c .before .before .x .given })) ∙ ap (toZ w64) (c .if2 .left) ∙ toZ-ofZ {w = w64} (record { sfits = c .before .y .given }) in
     (search needs, below-more _ _ (c .before .before .before .before .loop .inv .1) e)
 
--- src/same.rt:5:1
 returns-3 : tie.Need-returns-3 Inv-loop μ-loop
 returns-3 c =
     let v = c .before .loop .inv in

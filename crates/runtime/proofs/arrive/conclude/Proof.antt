@@ -10,43 +10,33 @@ use Rattle.runtime.proofs.arrive.arrived.Reads as arrived-reads
 use Rattle.runtime.proofs.arrive.taken.Reads as taken-reads
 use Rattle.runtime.proofs.ending.ending.Reads as ending-reads
 
--- src/arrive.rt:91:17
 add-n : tie.Need-add-n
 add-n c = search needs
 
--- src/arrive.rt:92:12
 interrupt-enable-requires : tie.Need-interrupt-enable-requires
 interrupt-enable-requires c κs = search needs
 
--- src/arrive.rt:93:53
 taken-requires : tie.Need-taken-requires
 taken-requires c κs = search needs
 
--- src/arrive.rt:93:13
 arrived-requires : tie.Need-arrived-requires
 arrived-requires c κs = search needs
 
--- src/arrive.rt:93:13
 returns : tie.Need-returns
 returns c = rw (c .arrived .ensures, c .before .taken .ensures) (concludes-enter (c .before .before .before .before .before .before .before .before .before .args .e) (c .before .before .before .before .before .before .before .before .before .args .cost) (c .before .before .before .before .before .before .before .before .before .args .cycles) (c .before .before .before .before .before .before .before .if1 .taken) (rw (c .before .before .before .before .interrupt-enable .ensures) at (c .before .before .if2 .taken)))
 
--- src/arrive.rt:95:9
 arrived-requires-2 : tie.Need-arrived-requires-2
 arrived-requires-2 c κs = search needs
 
--- src/arrive.rt:95:9
 returns-2 : tie.Need-returns-2
 returns-2 c = rw (c .arrived2 .ensures) (concludes-complete (c .before .before .before .before .before .before .before .before .args .e) (c .before .before .before .before .before .before .before .before .args .cost) (c .before .before .before .before .before .before .before .before .args .cycles) (c .before .before .before .before .before .before .if1 .taken) (rw (c .before .before .before .interrupt-enable .ensures) at (c .before .if2 .left)))
 
--- src/arrive.rt:98:9
 ending-requires : tie.Need-ending-requires
 ending-requires c κs = search needs
 
--- src/arrive.rt:100:5
 arrived-requires-3 : tie.Need-arrived-requires-3
 arrived-requires-3 c κs = search needs
 
--- src/arrive.rt:83:1
 returns-3 : tie.Need-returns-3
 returns-3 c = rw (c .arrived3 .ensures) (concludes-fail (c .before .before .before .before .args .e) (c .before .before .before .before .args .cost) (c .before .before .before .before .args .cycles) (c .before .ending .result) (c .before .before .if1 .left) (c .before .ending .ensures))
 

@@ -6,19 +6,15 @@ use Rattle.runtime.proofs.commit.save_entry.Reads as reads
 use Rattle.runtime.proofs.commit.save_entry.Lts as lts
 use Rattle.runtime.proofs.entry.save.Reads as save-reads
 
--- src/commit.rt:26:9
 save-requires : tie.Need-save-requires
 save-requires c κs = search needs
 
--- src/commit.rt:27:9
 same-length : tie.Need-same-length
 same-length c = search needs
 
--- src/commit.rt:27:9
 returns : tie.Need-returns
 returns c = rw (c .before .before .before .if1 .taken) (rw (toZ-ofZ (c .before .before .before .before .fits .sr)) at (c .before .save .ensures))
 
--- src/commit.rt:21:1
 returns-2 : tie.Need-returns-2
 returns-2 c = search needs
 

@@ -5,19 +5,15 @@ use Rattle.runtime.proofs.commit.send.Reads as reads
 use Rattle.runtime.proofs.commit.send.Lts as lts
 use Rattle.console.proofs.put_byte.Reads as put-byte-reads
 
--- src/commit.rt:15:9
 put-byte-requires : tie.Need-put-byte-requires
 put-byte-requires c κs = c .before .before .before .pre (c .before .if1 .taken)
 
--- src/commit.rt:16:9
 same-length : tie.Need-same-length
 same-length c = search needs
 
--- src/commit.rt:16:9
 returns : tie.Need-returns
 returns c = rw (c .before .before .before .before .if1 .taken) (c .before .before .put-byte .ensures)
 
--- src/commit.rt:10:1
 returns-2 : tie.Need-returns-2
 returns-2 c = search needs
 

@@ -8,35 +8,27 @@ use Rattle.runtime.proofs.decide.ends.Reads as ends-reads
 use Rattle.runtime.proofs.decide.enter.Reads as enter-reads
 use Rattle.runtime.proofs.decide.full.Reads as full-reads
 
--- src/decide.rt:131:9
 enter-requires : tie.Need-enter-requires
 enter-requires c κs = search needs
 
--- src/decide.rt:131:9
 returns : tie.Need-returns
 returns c = search needs
 
--- src/decide.rt:135:13
 ends-requires : tie.Need-ends-requires
 ends-requires c κs = search needs
 
--- src/decide.rt:135:13
 returns-2 : tie.Need-returns-2
 returns-2 c = rw (c .ends .ensures) (decides-stop (c .before .before .before .before .before .args .cells .now) (c .before .before .before .before .before .args .m) (c .before .before .before .before .before .args .a) (c .before .before .before .before .if1 .left) (c .before .if3 .taken) (c .before .before .if2 .taken))
 
--- src/decide.rt:137:9
 ends-requires-2 : tie.Need-ends-requires-2
 ends-requires-2 c κs = search needs
 
--- src/decide.rt:137:9
 returns-3 : tie.Need-returns-3
 returns-3 c = rw (c .ends2 .ensures) (decides-complete (c .before .before .before .before .before .args .cells .now) (c .before .before .before .before .before .args .m) (c .before .before .before .before .before .args .a) (c .before .before .before .before .if1 .left) (c .before .if3 .left) (c .before .before .if2 .taken))
 
--- src/decide.rt:139:5
 full-requires : tie.Need-full-requires
 full-requires c κs = search needs
 
--- src/decide.rt:126:1
 returns-4 : tie.Need-returns-4
 returns-4 c = rw (c .full .ensures) (decides-full (c .before .before .before .before .args .cells .now) (c .before .before .before .before .args .m) (c .before .before .before .before .args .a) (c .before .before .before .before .pre .1 .0) (c .before .before .before .if1 .left) (c .before .if2 .left))
 

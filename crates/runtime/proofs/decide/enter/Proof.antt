@@ -10,43 +10,33 @@ use Rattle.runtime.proofs.decide.entered.Reads as entered-reads
 use Rattle.runtime.proofs.decide.full.Reads as full-reads
 use Rattle.runtime.proofs.entry.has_handler.Reads as has-handler-reads
 
--- src/decide.rt:114:8
 has-handler-requires : tie.Need-has-handler-requires
 has-handler-requires c κs = search needs
 
--- src/decide.rt:115:12
 add-if2 : tie.Need-add-if2
 add-if2 c = search needs
 
--- src/decide.rt:116:13
 entered-requires : tie.Need-entered-requires
 entered-requires c κs = search needs
 
--- src/decide.rt:116:13
 returns : tie.Need-returns
 returns c = let p = c .before .before .before .before .before .before .pre in rw (c .entered .ensures) (decides-entered (c .before .before .before .before .before .before .args .cells .now) (c .before .before .before .before .before .before .args .m) (c .before .before .before .before .before .before .args .a) (p .1 .1 .1) (sym (c .before .before .before .before .has-handler .ensures) ∙ c .before .before .before .if1 .taken) (c .before .if2 .taken))
 
--- src/decide.rt:118:9
 full-requires : tie.Need-full-requires
 full-requires c κs = search needs
 
--- src/decide.rt:118:9
 returns-2 : tie.Need-returns-2
 returns-2 c = let p = c .before .before .before .before .before .before .pre in rw (c .full .ensures) (decides-entered-full (c .before .before .before .before .before .before .args .cells .now) (c .before .before .before .before .before .before .args .m) (c .before .before .before .before .before .before .args .a) (p .1 .0) (p .1 .1 .1) (sym (c .before .before .before .before .has-handler .ensures) ∙ c .before .before .before .if1 .taken) (c .before .if2 .left))
 
--- src/decide.rt:121:9
 ends-requires : tie.Need-ends-requires
 ends-requires c κs = search needs
 
--- src/decide.rt:121:9
 returns-3 : tie.Need-returns-3
 returns-3 c = let p = c .before .before .before .before .before .before .pre in rw (c .ends .ensures) (decides-unhandled (c .before .before .before .before .before .before .args .cells .now) (c .before .before .before .before .before .before .args .m) (c .before .before .before .before .before .before .args .a) (p .1 .1 .1) (sym (c .before .before .before .before .has-handler .ensures) ∙ c .before .before .before .if1 .left) (c .before .if3 .taken))
 
--- src/decide.rt:123:5
 full-requires-2 : tie.Need-full-requires-2
 full-requires-2 c κs = search needs
 
--- src/decide.rt:109:1
 returns-4 : tie.Need-returns-4
 returns-4 c = let p = c .before .before .before .before .before .before .pre in rw (c .full2 .ensures) (decides-unhandled-full (c .before .before .before .before .before .before .args .cells .now) (c .before .before .before .before .before .before .args .m) (c .before .before .before .before .before .before .args .a) (p .1 .0) (p .1 .1 .1) (sym (c .before .before .before .before .has-handler .ensures) ∙ c .before .before .before .if1 .left) (c .before .if3 .left))
 

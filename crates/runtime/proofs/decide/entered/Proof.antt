@@ -6,15 +6,12 @@ use Rattle.runtime.proofs.decide.entered.Reads as reads
 use Rattle.runtime.proofs.decide.entered.Lts as lts
 use Rattle.runtime.proofs.entry.entered_registers.Reads as entered-registers-reads
 
--- src/decide.rt:63:9
 entered-registers-requires : tie.Need-entered-registers-requires
 entered-registers-requires c κs = search needs
 
--- src/decide.rt:64:35
 add-t7 : tie.Need-add-t7
 add-t7 c = search needs
 
--- src/decide.rt:56:1
 returns : tie.Need-returns
 returns c = rw (back (c .before .before .before .before .before .before .args .a .s .sr) (c .struct-told .given .1 .1 .1 .1 .0 .1), c .before .before .entered-registers .ensures)
 

@@ -6,101 +6,79 @@ use Rattle.runtime.proofs.ending.ending.Tie as tie
 use Rattle.runtime.proofs.ending.ending.Reads as reads
 use Rattle.runtime.proofs.ending.ending.Lts as lts
 
--- src/ending.rt:17:29
 enum-told : tie.Need-enum-told
 enum-told c = search needs
 
--- src/ending.rt:18:38
 enum-told-2 : tie.Need-enum-told-2
 enum-told-2 c = search needs
 
--- src/ending.rt:19:41
 enum-told-3 : tie.Need-enum-told-3
 enum-told-3 c = search needs
 
--- src/ending.rt:20:24
 enum-told-4 : tie.Need-enum-told-4
 enum-told-4 c = search needs
 
--- src/ending.rt:21:39
 enum-told-5 : tie.Need-enum-told-5
 enum-told-5 c = search needs
 
--- src/ending.rt:22:29
 enum-told-6 : tie.Need-enum-told-6
 enum-told-6 c = search needs
 
--- src/ending.rt:23:27
 enum-told-7 : tie.Need-enum-told-7
 enum-told-7 c = search needs
 
--- src/ending.rt:24:29
 enum-told-8 : tie.Need-enum-told-8
 enum-told-8 c = search needs
 
--- src/ending.rt:25:29
 enum-told-9 : tie.Need-enum-told-9
 enum-told-9 c = search needs
 
--- src/ending.rt:26:29
 enum-told-10 : tie.Need-enum-told-10
 enum-told-10 c = search needs
 
--- src/ending.rt:27:25
 enum-told-11 : tie.Need-enum-told-11
 enum-told-11 c = search needs
 
--- src/ending.rt:13:1
 returns : tie.Need-returns
 unfolding ending
 returns c = sym (ap ending (c .enum-told .given .1))
 
--- src/ending.rt:13:1
 returns-2 : tie.Need-returns-2
 unfolding ending
 returns-2 c = sym (ap ending (c .enum-told2 .given .1))
 
--- src/ending.rt:13:1
 returns-3 : tie.Need-returns-3
 unfolding ending
 returns-3 c = sym (ap ending (c .enum-told3 .given .1))
 
--- src/ending.rt:13:1
 returns-4 : tie.Need-returns-4
 unfolding ending
 returns-4 c = sym (ap ending (c .enum-told4 .given .1))
 
--- src/ending.rt:13:1
 returns-5 : tie.Need-returns-5
 unfolding ending
 returns-5 c = sym (ap ending (c .enum-told5 .given .1))
 
--- src/ending.rt:13:1
 returns-6 : tie.Need-returns-6
 unfolding ending
 returns-6 c = sym (ap ending (c .enum-told6 .given .1))
 
--- src/ending.rt:13:1
 returns-7 : tie.Need-returns-7
 unfolding ending
 returns-7 c = sym (ap ending (c .enum-told7 .given .1))
 
--- src/ending.rt:13:1
 returns-8 : tie.Need-returns-8
 unfolding ending
 returns-8 c = sym (ap ending (c .enum-told8 .given .1))
 
--- src/ending.rt:13:1
 returns-9 : tie.Need-returns-9
 unfolding ending
 returns-9 c = sym (ap ending (c .enum-told9 .given .1))
 
--- src/ending.rt:13:1
 returns-10 : tie.Need-returns-10
 unfolding ending
 returns-10 c = sym (ap ending (c .enum-told10 .given .1))
 
--- src/ending.rt:13:1
 returns-11 : tie.Need-returns-11
 unfolding ending
 returns-11 c = sym (ap ending (c .enum-told11 .given .1))

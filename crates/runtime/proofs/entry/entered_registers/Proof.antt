@@ -7,11 +7,9 @@ use Rattle.runtime.proofs.entry.entered_registers.Reads as reads
 use Rattle.runtime.proofs.entry.entered_registers.Lts as lts
 use Rattle.runtime.proofs.entry.entered_sr.Reads as entered-sr-reads
 
--- src/entry.rt:39:5
 entered-sr-requires : tie.Need-entered-sr-requires
 entered-sr-requires c κs = search needs
 
--- src/entry.rt:34:1
 returns : tie.Need-returns
 unfolding enteredRegisters
 returns c = rw (c .entered-sr .ensures, back (c .before .before .args .s .sr) (c .before .struct-told .given .1 .1 .1 .1 .0 .1))

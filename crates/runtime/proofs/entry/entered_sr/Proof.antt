@@ -9,19 +9,15 @@ use Rattle.runtime.proofs.entry.entered_sr.Reads as reads
 use Rattle.runtime.proofs.entry.entered_sr.Lts as lts
 use Rattle.word.proofs.put_bit.Reads as put-bit-reads
 
--- src/entry.rt:25:9
 put-bit-requires : tie.Need-put-bit-requires
 put-bit-requires c κs = search needs
 
--- src/entry.rt:27:9
 put-bit-requires-2 : tie.Need-put-bit-requires-2
 put-bit-requires-2 c κs = search needs
 
--- src/entry.rt:22:1
 returns : tie.Need-returns
 returns c = rw (back (c .put-bit2 .result) (c .put-bit2 .ok), c .put-bit2 .ensures, back (c .before .before .put-bit .result) (c .before .before .put-bit .ok), c .before .before .put-bit .ensures, toZ-ofZ (c .before .before .before .fits .sr), sr-zero (c .before .before .before .args .code) (c .before .before .before .args .sr) (c .before .if1 .taken))
 
--- src/entry.rt:22:1
 returns-2 : tie.Need-returns-2
 returns-2 c = rw (back (c .before .put-bit .result) (c .before .put-bit .ok), c .before .put-bit .ensures, toZ-ofZ (c .before .before .fits .sr), sr-suc (c .before .before .args .code) (c .before .before .args .sr) (c .if1 .left))
 

@@ -9,23 +9,18 @@ use Rattle.runtime.proofs.entry.has_handler.Lts as lts
 use Rattle.memory.proofs.get_cell.Reads as get-cell-reads
 use Rattle.memory.proofs.is_instruction.Reads as is-instruction-reads
 
--- src/entry.rt:16:9
 is-instruction-requires : tie.Need-is-instruction-requires
 is-instruction-requires c κs = search needs
 
--- src/entry.rt:16:9
 returns : tie.Need-returns
 returns c = c .is-instruction .ensures ∙ handler-there (c .before .before .args .cells .now) _ _ (c .before .if1 .taken) (c .before .before .pre)
 
--- src/entry.rt:18:28
 get-cell-requires : tie.Need-get-cell-requires
 get-cell-requires c κs = search needs
 
--- src/entry.rt:18:5
 is-instruction-requires-2 : tie.Need-is-instruction-requires-2
 is-instruction-requires-2 c κs = search needs
 
--- src/entry.rt:11:1
 returns-2 : tie.Need-returns-2
 returns-2 c = c .is-instruction2 .ensures ∙ ap isInstruction (c .before .get-cell .ensures) ∙ handler-other (c .before .before .before .args .cells .now) _ _ (c .before .before .if1 .left)
 

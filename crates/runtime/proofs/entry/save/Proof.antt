@@ -11,35 +11,27 @@ use Rattle.memory.proofs.address_cell.Reads as address-cell-reads
 use Rattle.memory.proofs.put_cell.Reads as put-cell-reads
 use Rattle.memory.proofs.word_cell.Reads as word-cell-reads
 
--- src/entry.rt:48:34
 address-cell-requires : tie.Need-address-cell-requires
 address-cell-requires c κs = search needs
 
--- src/entry.rt:48:5
 put-cell-requires : tie.Need-put-cell-requires
 put-cell-requires c κs = search needs
 
--- src/entry.rt:49:34
 word-cell-requires : tie.Need-word-cell-requires
 word-cell-requires c κs = search needs
 
--- src/entry.rt:49:5
 put-cell-requires-2 : tie.Need-put-cell-requires-2
 put-cell-requires-2 c κs = search needs
 
--- src/entry.rt:50:34
 address-cell-requires-2 : tie.Need-address-cell-requires-2
 address-cell-requires-2 c κs = search needs
 
--- src/entry.rt:50:5
 put-cell-requires-3 : tie.Need-put-cell-requires-3
 put-cell-requires-3 c κs = search needs
 
--- src/entry.rt:44:1
 same-length : tie.Need-same-length
 same-length c = search needs
 
--- src/entry.rt:44:1
 returns : tie.Need-returns
 unfolding saved
 returns c = rw (c .before .put-cell3 .ensures, c .before .before .address-cell2 .ensures, c .before .before .before .before .before .put-cell2 .ensures, c .before .before .before .before .before .before .word-cell .ensures, c .before .before .before .before .before .before .before .before .before .put-cell .ensures, c .before .before .before .before .before .before .before .before .before .before .address-cell .ensures, toZ-ofZ (c .before .before .before .before .before .before .before .before .before .before .before .before .fits .sr))

@@ -8,19 +8,15 @@ use Rattle.runtime.proofs.entry.write_over.Reads as reads
 use Rattle.runtime.proofs.entry.write_over.Lts as lts
 use Rattle.memory.proofs.put_cell.Reads as put-cell-reads
 
--- src/entry.rt:59:9
 put-cell-requires : tie.Need-put-cell-requires
 put-cell-requires c κs = search needs
 
--- src/entry.rt:60:9
 same-length : tie.Need-same-length
 same-length c = c .before .put-cell .kept .0
 
--- src/entry.rt:60:9
 returns : tie.Need-returns
 returns c = c .before .put-cell .ensures ∙ sym (over-in (c .before .before .before .before .args .cells .now) _ _ (omega arith))
 
--- src/entry.rt:54:1
 returns-2 : tie.Need-returns-2
 returns-2 c = sym (over-none (c .before .args .cells .now) _ _ (omega arith))
 

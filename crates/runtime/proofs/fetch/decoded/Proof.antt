@@ -21,39 +21,33 @@ use Rattle.runtime.proofs.fetch.decoded.Lts as lts
 use Rattle.encoding.proofs.decode.Reads as decode-reads
 use Rattle.runtime.proofs.fetch.no_instruction.Reads as no-instruction-reads
 
--- src/fetch.rt:40:74
 no-instruction-requires : tie.Need-no-instruction-requires
 no-instruction-requires c κs = search needs
 
--- src/fetch.rt:40:9
 returns : tie.Need-returns
 unfolding extractInstruction orInstruction
 returns c = let a = c .before .before .before .args in let v = a .v in
     let h : ltZ (v .tag) (pos 2) ≡ true = rw (back (v .tag) (c .before .before .struct-told .given .0 .1)) at (c .before .if1 .taken) in
     record { is = λ (l : List ℤ). sym (ap (λ (x : Extracted). orInstruction x (core l (a .s))) (not-code (v .tag) (v .first) (v .second) h)); known = (let z = c .no-instruction .ensures .0 in omega arith); cheap = (let z = c .no-instruction .ensures .1 in omega arith) }
 
--- src/fetch.rt:42:74
 cast-decode : tie.Need-cast-decode
 unfolding sound
 cast-decode c = let v = c .before .before .args .v in
     let b = back (v .tag) (c .before .struct-told .given .0 .1) in
     rw b (code (v .tag) (rw b at (c .if1 .left)) (near (v .tag) (v .first) (v .second) (c .before .before .pre .0)) .whole)
 
--- src/fetch.rt:42:73
 sub-decode : tie.Need-sub-decode
 unfolding sound
 sub-decode c = let v = c .before .before .args .v in
     let b = back (v .tag) (c .before .struct-told .given .0 .1) in
     rw b (code (v .tag) (rw b at (c .if1 .left)) (near (v .tag) (v .first) (v .second) (c .before .before .pre .0)) .least)
 
--- src/fetch.rt:42:49
 decode-requires : tie.Need-decode-requires
 unfolding sound
 decode-requires c κs = let v = c .before .before .before .before .args .v in
     let b = back (v .tag) (c .before .before .before .struct-told .given .0 .1) in
     (rw b (code (v .tag) (rw b at (c .before .before .if1 .left)) (near (v .tag) (v .first) (v .second) (c .before .before .before .before .pre .0)) .most), c .before .before .before .before .pre .1)
 
--- src/fetch.rt:34:1
 returns-2 : tie.Need-returns-2
 unfolding extractInstruction orInstruction
 returns-2 c = let a = c .before .before .before .before .before .args in let v = a .v in

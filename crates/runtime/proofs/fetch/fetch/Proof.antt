@@ -17,32 +17,25 @@ use Rattle.memory.proofs.get_cell.Reads as get-cell-reads
 use Rattle.runtime.proofs.fetch.decoded.Reads as decoded-reads
 use Rattle.runtime.proofs.fetch.no_instruction.Reads as no-instruction-reads
 
--- src/fetch.rt:51:13
 cast-n : tie.Need-cast-n
 cast-n c = search needs
 
--- src/fetch.rt:54:16
 add-t : tie.Need-add-t
 add-t c = search needs
 
--- src/fetch.rt:55:31
 get-cell-requires : tie.Need-get-cell-requires
 get-cell-requires c κs = search needs
 
--- src/fetch.rt:55:9
 decoded-requires : tie.Need-decoded-requires
 decoded-requires c κs = let a = c .before .before .args in let h : a .s .pc < cellCount (a .cells .now) = omega arith in (ap sound (c .get-cell .ensures) ∙ c .before .before .pre .1 .0 (a .s .pc) h, c .before .before .pre .1 .1)
 
--- src/fetch.rt:55:9
 returns : tie.Need-returns
 returns c = let a = c .before .before .before .args in let l = a .cells .now in let h : a .s .pc < cellCount l = omega arith in
     record { is = c .decoded .ensures .is l ∙ ap (λ (v : Cell). orInstruction (extractInstruction v) (core l (with-pc (a .s .pc + 1) (a .s)))) (c .before .get-cell .ensures) ∙ fetch-in l (a .s) h; known = c .decoded .ensures .known; cheap = c .decoded .ensures .cheap }
 
--- src/fetch.rt:57:64
 no-instruction-requires : tie.Need-no-instruction-requires
 no-instruction-requires c κs = search needs
 
--- src/fetch.rt:46:1
 returns-2 : tie.Need-returns-2
 returns-2 c = let a = c .before .before .args in record { is = fetch-out (a .cells .now) (a .s) (omega arith); known = (let z = c .no-instruction .ensures .0 in omega arith); cheap = (let z = c .no-instruction .ensures .1 in omega arith) }
 

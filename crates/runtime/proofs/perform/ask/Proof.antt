@@ -7,19 +7,15 @@ use Rattle.runtime.proofs.perform.ask.Lts as lts
 use Rattle.runtime.proofs.perform.input.Reads as input-reads
 use Rattle.runtime.proofs.perform.output.Reads as output-reads
 
--- src/perform.rt:128:9
 input-requires : tie.Need-input-requires
 input-requires c κs = ((c .before .before .pre .0 .0, c .before .before .pre .0 .1 .0), c .if1 .taken)
 
--- src/perform.rt:128:9
 returns : tie.Need-returns
 returns c = c .input .ensures (c .before .before .before .args .size)
 
--- src/perform.rt:130:5
 output-requires : tie.Need-output-requires
 output-requires c κs = ((c .before .before .pre .0 .0, c .before .before .pre .0 .1 .1), asks-out _ (c .before .before .pre .1) (c .if1 .left))
 
--- src/perform.rt:122:1
 returns-2 : tie.Need-returns-2
 returns-2 c = c .output .ensures
 

@@ -24,54 +24,42 @@ use Rattle.registers.proofs.refuse.Reads as refuse-reads
 use Rattle.runtime.proofs.perform.done.Reads as done-reads
 use Rattle.runtime.proofs.perform.keep.Reads as keep-reads
 
--- src/perform.rt:83:9
 in-request-requires : tie.Need-in-request-requires
 in-request-requires c κs = search needs
 
--- src/perform.rt:85:13
 read-port-requires : tie.Need-read-port-requires
 read-port-requires c κs = search needs
 
--- src/perform.rt:87:67
 cast-address-cell : tie.Need-cast-address-cell
 cast-address-cell c = search needs
 
--- src/perform.rt:87:46
 address-cell-requires : tie.Need-address-cell-requires
 address-cell-requires c κs = search needs
 
--- src/perform.rt:87:13
 put-reg-requires : tie.Need-put-reg-requires
 put-reg-requires c κs = search needs
 
--- src/perform.rt:88:21
 keep-requires : tie.Need-keep-requires
 keep-requires c κs = search needs
 
--- src/perform.rt:88:9
 done-requires : tie.Need-done-requires
 done-requires c κs = search needs
 
--- src/perform.rt:88:9
 returns : tie.Need-returns
 returns c = λ size. let a = c .before .before .before .before .before .before .before .before .before .before .before .before .args in let l = a .cells .now in let q = c .before .before .before .before .before .before .before .before .in-request .result in let v = c .before .before .before .before .before .before .read-port .result in
     let e = ap (λ (b : Bool). result (reads (q .port) (regAt (a .i .y .reg))) b (q .error) (core l (a .s))) (sym (c .before .before .before .before .before .before .before .if1 .taken)) ∙ c .before .before .before .before .before .before .before .before .in-request .ensures l ∙ is-in l (a .s) (a .i) (c .before .before .before .before .before .before .before .before .before .before .before .before .pre .1) in
     let g = ap (putRes l) (c .before .before .put-reg .ensures) ∙ settled-is (a .s) l (putReg (regAt (a .i .y .reg)) (c .before .before .before .address-cell .result) (a .s)) in
     rw (c .done .ensures, c .before .keep .ensures) (serves-input l (a .queue .now) size (a .s) (a .k) (a .i) (c .before .before .before .before .before .before .before .before .before .before .before .before .pre .0 .0) (q .port) (v .value) (regAt (a .i .y .reg)) (v .k) (c .before .before .put-reg .result) e (c .before .before .before .before .before .before .read-port .ensures) (rw (c .before .before .before .address-cell .ensures) at g))
 
--- src/perform.rt:91:15
 refuse-requires : tie.Need-refuse-requires
 refuse-requires c κs = search needs
 
--- src/perform.rt:91:10
 keep-requires-2 : tie.Need-keep-requires-2
 keep-requires-2 c κs = search needs
 
--- src/perform.rt:91:5
 done-requires-2 : tie.Need-done-requires-2
 done-requires-2 c κs = search needs
 
--- src/perform.rt:77:1
 returns-2 : tie.Need-returns-2
 returns-2 c = λ size. let a = c .before .before .before .before .before .before .before .before .args in let l = a .cells .now in let q = c .before .before .before .before .in-request .result in
     let e = ap (λ (b : Bool). result (reads (q .port) (regAt (a .i .y .reg))) b (q .error) (core l (a .s))) (sym (c .before .before .before .if1 .left)) ∙ c .before .before .before .before .in-request .ensures l ∙ is-in l (a .s) (a .i) (c .before .before .before .before .before .before .before .before .pre .1) in

@@ -19,63 +19,49 @@ use Rattle.registers.proofs.refuse.Reads as refuse-reads
 use Rattle.runtime.proofs.perform.done.Reads as done-reads
 use Rattle.runtime.proofs.perform.keep.Reads as keep-reads
 
--- src/perform.rt:101:9
 out-request-requires : tie.Need-out-request-requires
 out-request-requires c κs = search needs
 
--- src/perform.rt:103:12
 output-full-requires : tie.Need-output-full-requires
 output-full-requires c κs = search needs
 
--- src/perform.rt:106:25
 accept-requires : tie.Need-accept-requires
 accept-requires c κs = search needs
 
--- src/perform.rt:106:20
 keep-requires : tie.Need-keep-requires
 keep-requires c κs = search needs
 
--- src/perform.rt:104:13
 returns : tie.Need-returns
 returns c = let a = c .before .before .before .before .before .before .before .before .before .args in let l = a .cells .now in let q = c .before .before .before .before .before .out-request .result in
     let e = ap (λ (b : Bool). result (writes (q .port) (q .w)) b (q .error) (core l (a .s))) (sym (c .before .before .before .before .if1 .taken)) ∙ c .before .before .before .before .before .out-request .ensures ∙ is-out l (a .s) (a .i) (c .before .before .before .before .before .before .before .before .before .pre .1) in
     serves-full l (a .queue .now) (a .size) (a .s) (a .k) (a .i) (q .port) (q .w) (c .keep .result) e (λ y o h. sym (c .before .before .if2 .taken) ∙ c .before .before .before .output-full .ensures y o h)
 
--- src/perform.rt:109:13
 write-port-requires : tie.Need-write-port-requires
 write-port-requires c κs = search needs
 
--- src/perform.rt:111:26
 accept-requires-2 : tie.Need-accept-requires-2
 accept-requires-2 c κs = search needs
 
--- src/perform.rt:111:13
 keep-requires-2 : tie.Need-keep-requires-2
 keep-requires-2 c κs = search needs
 
--- src/perform.rt:115:9
 done-requires : tie.Need-done-requires
 done-requires c κs = search needs
 
--- src/perform.rt:115:9
 returns-2 : tie.Need-returns-2
 returns-2 c = let a = c .before .before .before .before .before .before .before .before .before .before .before .before .before .args in let l = a .cells .now in let q = c .before .before .before .before .before .before .before .before .before .out-request .result in
     let e = ap (λ (b : Bool). result (writes (q .port) (q .w)) b (q .error) (core l (a .s))) (sym (c .before .before .before .before .before .before .before .before .if1 .taken)) ∙ c .before .before .before .before .before .before .before .before .before .out-request .ensures ∙ is-out l (a .s) (a .i) (c .before .before .before .before .before .before .before .before .before .before .before .before .before .pre .1) in
     rw (c .done .ensures, c .before .keep2 .ensures, c .before .before .accept2 .ensures) (serves-sent l (a .queue .now) (a .size) (a .s) (a .k) (a .i) (c .before .before .before .before .before .before .before .before .before .before .before .before .before .pre .0 .0) (q .port) (q .w) (c .before .before .before .before .write-port .result) _ e (λ y o h. sym (c .before .before .before .before .before .before .if2 .left) ∙ c .before .before .before .before .before .before .before .output-full .ensures y o h) (rw (back (q .w) (c .before .before .before .before .before .struct-told .given .1 .1 .1 .0 .1)) at (c .before .before .before .before .write-port .ensures)))
 
--- src/perform.rt:118:15
 refuse-requires : tie.Need-refuse-requires
 refuse-requires c κs = search needs
 
--- src/perform.rt:118:10
 keep-requires-3 : tie.Need-keep-requires-3
 keep-requires-3 c κs = search needs
 
--- src/perform.rt:118:5
 done-requires-2 : tie.Need-done-requires-2
 done-requires-2 c κs = search needs
 
--- src/perform.rt:95:1
 returns-3 : tie.Need-returns-3
 returns-3 c = let a = c .before .before .before .before .before .before .before .before .args in let l = a .cells .now in let q = c .before .before .before .before .out-request .result in
     let e = ap (λ (b : Bool). result (writes (q .port) (q .w)) b (q .error) (core l (a .s))) (sym (c .before .before .before .if1 .left)) ∙ c .before .before .before .before .out-request .ensures ∙ is-out l (a .s) (a .i) (c .before .before .before .before .before .before .before .before .pre .1) in

@@ -26,36 +26,28 @@ use Rattle.runtime.proofs.entry.write_over.Reads as write-over-reads
 use Rattle.z33.proofs.raise.raising.Reads as raising-reads
 use Rattle.z33.proofs.run.state.Reads as state-reads
 
--- src/raise.rt:43:9
 raise-check-requires : tie.Need-raise-check-requires
 raise-check-requires c κs = search needs
 
--- src/raise.rt:45:13
 state-requires : tie.Need-state-requires
 state-requires c κs = let a = c .before .before .before .before .before .before .args in let p = raise-passed (a .cells .now) (a .row .now) (a .code) (passed-by (c .before .before .before .raise-check .ensures) (c .before .if1 .taken)) .row-fits in (p .sixteen, (p .pc, p .sp))
 
--- src/raise.rt:46:28
 cast-raising : tie.Need-cast-raising
 cast-raising c = let a = c .before .before .before .before .before .before .before .args in let p = raise-passed (a .cells .now) (a .row .now) (a .code) (passed-by (c .before .before .before .before .raise-check .ensures) (c .before .before .if1 .taken)) .code-most in omega arith
 
--- src/raise.rt:46:13
 raising-requires : tie.Need-raising-requires
 raising-requires c κs = search needs
 
--- src/raise.rt:47:13
 decide-requires : tie.Need-decide-requires
 decide-requires c κs = let a = c .before .before .before .before .before .before .before .before .before .args in let p = raise-passed (a .cells .now) (a .row .now) (a .code) (passed-by (c .before .before .before .before .before .before .raise-check .ensures) (c .before .before .before .before .if1 .taken)) in let n = p .row-fits .cycles .1 in
     rw (c .before .raising .ensures, c .before .before .state .ensures) (p .cells-fit .least, (p .cells-fit .most, omega arith))
 
--- src/raise.rt:53:13
 write-over-requires : tie.Need-write-over-requires
 write-over-requires c κs = search needs
 
--- src/raise.rt:54:13
 save-entry-requires : tie.Need-save-entry-requires
 save-entry-requires c κs = let a = c .before .before .before .before .before .before .before .before .before .before .before .before .before .before .before .before .before .before .before .before .args in let p = raise-passed (a .cells .now) (a .row .now) (a .code) (passed-by (c .before .before .before .before .before .before .before .before .before .before .before .before .before .before .before .before .before .raise-check .ensures) (c .before .before .before .before .before .before .before .before .before .before .before .before .before .before .before .if1 .taken)) .cells-fit .least in let k = c .before .before .before .write-over .kept .0 in omega arith
 
--- src/raise.rt:55:13
 write-row-requires : tie.Need-write-row-requires
 unfolding machineOf
 write-row-requires c κs = let a = c .before .before .before .before .before .before .before .before .before .before .before .before .before .before .before .before .before .before .before .before .before .before .before .args in let p = raise-passed (a .cells .now) (a .row .now) (a .code) (passed-by (c .before .before .before .before .before .before .before .before .before .before .before .before .before .before .before .before .before .before .before .before .raise-check .ensures) (c .before .before .before .before .before .before .before .before .before .before .before .before .before .before .before .before .before .before .if1 .taken)) in
@@ -65,52 +57,41 @@ write-row-requires c κs = let a = c .before .before .before .before .before .be
     let r = p .row-fits in let rs = r .start .1 in let rn = r .count .1 in let rw' = r .written .1 in
     (r .sixteen, (f .0, (omega arith, (omega arith, omega arith))))
 
--- src/raise.rt:56:13
 same-length : tie.Need-same-length
 same-length c = search needs
 
--- src/raise.rt:56:13
 same-length-2 : tie.Need-same-length-2
 same-length-2 c = search needs
 
--- src/raise.rt:56:13
 returns : tie.Need-returns
 returns c = let a = c .before .before .before .before .before .before .before .before .before .before .before .before .before .before .before .before .before .before .before .before .before .before .before .before .before .args in let t = passed-by (c .before .before .before .before .before .before .before .before .before .before .before .before .before .before .before .before .before .before .before .before .before .before .raise-check .ensures) (c .before .before .before .before .before .before .before .before .before .before .before .before .before .before .before .before .before .before .before .before .if1 .taken) in let p = raise-passed (a .cells .now) (a .row .now) (a .code) t in
     let h = rw (c .before .before .before .before .before .before .before .before .before .before .before .before .before .before .before .before .before .raising .ensures, c .before .before .before .before .before .before .before .before .before .before .before .before .before .before .before .before .before .before .state .ensures) at (c .before .before .before .before .before .before .before .before .before .before .before .before .before .before .before .decide .ensures) in let d = c .before .before .before .before .before .before .before .before .before .before .before .before .before .before .before .decide .result in
     let e = rw (back (d .sr) (c .before .before .before .before .before .struct-told .given .1 .1 .1 .1 .1 .1 .1 .1 .1 .1 .0 .1)) at (c .before .before .before .before .save-entry .ensures) ∙ ap (λ (x : List ℤ). saves (d .enters) (d .pc) (d .sr) (d .code) x) (c .before .before .before .before .before .before .before .before .write-over .ensures) in
     raise-done (a .cells .now) (a .row .now) (a .code) d (p .cells-fit .most) h t (c .before .before .before .before .before .before .before .before .before .before .before .before .before .before .if2 .taken) _ _ e (c .before .write-row .ensures)
 
--- src/raise.rt:66:19
 cast-t30 : tie.Need-cast-t30
 cast-t30 c = search needs
 
--- src/raise.rt:67:21
 cast-t31 : tie.Need-cast-t31
 cast-t31 c = search needs
 
--- src/raise.rt:63:9
 same-length-3 : tie.Need-same-length-3
 same-length-3 c = search needs
 
--- src/raise.rt:63:9
 same-length-4 : tie.Need-same-length-4
 same-length-4 c = search needs
 
--- src/raise.rt:63:9
 returns-2 : tie.Need-returns-2
 returns-2 c = let a = c .before .before .before .before .before .before .before .before .before .before .before .before .before .args in let t = passed-by (c .before .before .before .before .before .before .before .before .before .before .raise-check .ensures) (c .before .before .before .before .before .before .before .before .if1 .taken) in let p = raise-passed (a .cells .now) (a .row .now) (a .code) t in
     let h = rw (c .before .before .before .before .before .raising .ensures, c .before .before .before .before .before .before .state .ensures) at (c .before .before .before .decide .ensures) in
     raise-stopped (a .cells .now) (a .row .now) (a .code) (c .before .before .before .decide .result) (p .cells-fit .most) h t (c .before .before .if2 .left)
 
--- src/raise.rt:39:1
 same-length-5 : tie.Need-same-length-5
 same-length-5 c = search needs
 
--- src/raise.rt:39:1
 same-length-6 : tie.Need-same-length-6
 same-length-6 c = search needs
 
--- src/raise.rt:39:1
 returns-3 : tie.Need-returns-3
 returns-3 c = let a = c .before .before .before .before .before .args in
     ap (λ (d : Done). called (record { refusal = d .refusal; place = d .place; stop = 0; detail = 0 }) (a .cells .now, a .row .now)) (c .before .before .raise-check .ensures) ∙ raise-refused (a .cells .now) (a .row .now) (a .code) (refused-by (c .before .before .raise-check .ensures) (c .if1 .left))

@@ -8,19 +8,15 @@ use Rattle.row.proofs.console_state.Reads as console-state-reads
 use Rattle.row.proofs.number_at.Reads as number-at-reads
 use Rattle.row.proofs.registers.Reads as registers-reads
 
--- src/run.rt:19:12
 registers-requires : tie.Need-registers-requires
 registers-requires c κs = search needs
 
--- src/run.rt:20:17
 number-at-requires : tie.Need-number-at-requires
 number-at-requires c κs = search needs
 
--- src/run.rt:21:12
 console-state-requires : tie.Need-console-state-requires
 console-state-requires c κs = search needs
 
--- src/run.rt:14:1
 returns : tie.Need-returns
 returns c = rw (c .before .before .registers .ensures, c .before .number-at .ensures, c .console-state .ensures)
 

@@ -22,19 +22,15 @@ use Rattle.row.proofs.write_row.Reads as write-row-reads
 use Rattle.refusals.proofs.run_check.Reads as run-check-reads
 use Rattle.z33.proofs.run.state.Reads as state-reads
 
--- src/run.rt:36:9
 run-check-requires : tie.Need-run-check-requires
 run-check-requires c κs = search needs
 
--- src/run.rt:38:13
 state-requires : tie.Need-state-requires
 state-requires c κs = let a = c .before .before .before .before .before .before .before .before .before .before .args in let p = run-passed (lent (a .cells .now) (a .queue .now) (a .output .now) (a .row .now)) (passed-by (c .before .before .before .run-check .ensures) (c .before .if1 .taken)) .row-fits in (p .sixteen, (p .pc, p .sp))
 
--- src/run.rt:39:13
 run-requires : tie.Need-run-requires
 run-requires c κs = let a = c .before .before .before .before .before .before .before .before .before .before .before .before .before .before .args in rw (c .before .before .before .state .ensures) (run-accepted (a .cells .now) (a .queue .now) (a .output .now) (a .row .now) (passed-by (c .before .before .before .before .before .before .before .run-check .ensures) (c .before .before .before .before .before .if1 .taken)))
 
--- src/run.rt:43:9
 write-row-requires : tie.Need-write-row-requires
 write-row-requires c κs = let a = c .before .before .before .before .before .before .before .before .before .before .before .before .before .before .before .before .before .before .before .before .before .before .args in let h = passed-by (c .before .before .before .before .before .before .before .before .before .before .before .before .before .before .before .run-check .ensures) (c .before .before .before .before .before .before .before .before .before .before .before .before .before .if1 .taken) in let f = rw (c .before .before .before .before .before .before .before .before .before .before .before .state .ensures) at (c .before .before .before .before .before .before .before .run .ensures) in
     let p = run-passed (lent (a .cells .now) (a .queue .now) (a .output .now) (a .row .now)) h .row-fits in
@@ -42,56 +38,43 @@ write-row-requires c κs = let a = c .before .before .before .before .before .be
     let n = x .console-in in let q = n .few in let z = n .small in let s = n .start-in in let t = n .count-in in let w = n .written-in in
     (p .sixteen, (x .cycles-in, (omega arith, (omega arith, omega arith))))
 
--- src/run.rt:47:19
 cast-t32 : tie.Need-cast-t32
 cast-t32 c = search needs
 
--- src/run.rt:48:21
 cast-t33 : tie.Need-cast-t33
 cast-t33 c = search needs
 
--- src/run.rt:49:20
 cast-t34 : tie.Need-cast-t34
 cast-t34 c = search needs
 
--- src/run.rt:44:9
 same-length : tie.Need-same-length
 same-length c = search needs
 
--- src/run.rt:44:9
 same-length-2 : tie.Need-same-length-2
 same-length-2 c = search needs
 
--- src/run.rt:44:9
 same-length-3 : tie.Need-same-length-3
 same-length-3 c = search needs
 
--- src/run.rt:44:9
 same-length-4 : tie.Need-same-length-4
 same-length-4 c = search needs
 
--- src/run.rt:44:9
 returns : tie.Need-returns
 returns c = let a = c .before .before .before .before .before .before .before .before .before .before .before .before .before .before .before .before .before .before .before .before .before .before .before .before .before .before .before .args in let h = passed-by (c .before .before .before .before .before .before .before .before .before .before .before .before .before .before .before .before .before .before .before .before .run-check .ensures) (c .before .before .before .before .before .before .before .before .before .before .before .before .before .before .before .before .before .before .if1 .taken) in let f = rw (c .before .before .before .before .before .before .before .before .before .before .before .before .before .before .before .before .state .ensures) at (c .before .before .before .before .before .before .before .before .before .before .before .before .run .ensures) in
     run-answer (a .cells .now) (a .queue .now) (a .output .now) (a .row .now) h (a .budget) _ _ (c .before .before .before .before .before .before .before .before .before .before .before .before .run .result) f _ (c .before .before .before .before .write-row .ensures)
 
--- src/run.rt:26:1
 same-length-5 : tie.Need-same-length-5
 same-length-5 c = search needs
 
--- src/run.rt:26:1
 same-length-6 : tie.Need-same-length-6
 same-length-6 c = search needs
 
--- src/run.rt:26:1
 same-length-7 : tie.Need-same-length-7
 same-length-7 c = search needs
 
--- src/run.rt:26:1
 same-length-8 : tie.Need-same-length-8
 same-length-8 c = search needs
 
--- src/run.rt:26:1
 returns-2 : tie.Need-returns-2
 returns-2 c = let a = c .before .before .before .before .before .before .before .before .before .args in let l = lent (a .cells .now) (a .queue .now) (a .output .now) (a .row .now) in
     ap (λ (d : Done). called (record { refusal = d .refusal; place = d .place; stop = 0; detail = 0; steps = 0 }) l) (c .before .before .run-check .ensures) ∙ run-refused (a .budget) l (refused-by (c .before .before .run-check .ensures) (c .if1 .left))
