@@ -25,7 +25,7 @@ use Rattle.definition.proofs.Accepted.{OutcomeHas, step-accepted}
 use Rattle.memory.specs.Overlay.{overlay}
 use Rattle.memory.proofs.Laws.{over-none}
 use Rattle.registers.specs.Answer.{result, settled}
-use Rattle.instructions.specs.declared.Made.{Made}
+use Rattle.stores.specs.declared.Made.{Made}
 use Rattle.encoding.specs.Instr.{instrOf}
 use Rattle.console.specs.declared.ConsoleState.{ConsoleState}
 use Rattle.console.specs.State.{consoleOf}

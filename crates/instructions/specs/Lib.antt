@@ -1,2 +1,2 @@
 pub mod Jumps
-pub mod Plan
+pub mod Meaning

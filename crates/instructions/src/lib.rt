@@ -1,10 +1,10 @@
 // instructions.rs: Instruction::execute, and the two requests to the console.
 use arguments::Arg;
 use definition::Address;
-use definition::Cell;
 use definition::Error;
 use definition::Registers;
 use definition::Word;
+use stores::Made;
 ghost use mathlib.Core.Path.{_≡_};
 ghost use mathlib.Core.Bool.{false};
 ghost use mathlib.Core.List.{List};
@@ -18,25 +18,11 @@ ghost use Rattle.definition.specs.Encoding.{opAt};
 ghost use Rattle.definition.specs.Instructions.{execute, nothing, reads, writes, inOp, outOp};
 ghost use Rattle.registers.specs.Answer.{result};
 ghost use Rattle.arguments.specs.By.{argOf};
-ghost use Rattle.instructions.specs.Plan.{made, asker};
+ghost use Rattle.stores.specs.Plan.{made};
+ghost use Rattle.instructions.specs.Meaning.{asker};
 
 pub mod jumps;
 pub mod moves;
-pub mod stores;
-
-// The registers, and the one cell write that waits: v at `at`, which is outside where there is none.
-pub struct Plan {
-    pub s: Registers,
-    pub at: u32,
-    pub v: Cell,
-}
-
-// The answer of an instruction. Where ok, `error` is a filler.
-pub struct Made {
-    pub ok: bool,
-    pub error: Error,
-    pub p: Plan,
-}
 
 // What `in` and `out` ask of the console: the port, and the word to write there (for `in` it is 0).
 pub struct Asked {

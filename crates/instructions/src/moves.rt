@@ -15,7 +15,7 @@ ghost use Rattle.definition.specs.Computer.{core};
 ghost use Rattle.definition.specs.Instructions.{ld, popOp, rtn, rti};
 ghost use Rattle.registers.specs.Answer.{putRes};
 ghost use Rattle.arguments.specs.By.{argOf};
-ghost use Rattle.instructions.specs.Plan.{rtiSr};
+ghost use Rattle.instructions.specs.Meaning.{rtiSr};
 
 pub fn ld(cells: &[i64], s: Registers, x: Arg, r: u32) -> Put
     ensures { λ q. ⌜ putRes (now (cells .entry)) q ≡ ld (argOf x) (regAt r) (core (now (cells .entry)) s) ⌝ }

@@ -23,8 +23,9 @@ use Rattle.memory.specs.Overlay.{overlay}
 use Rattle.registers.specs.declared.Put.{Put}
 use Rattle.registers.specs.Answer.{result, answer, putRes}
 use Rattle.arguments.specs.By.{argOf}
-use Rattle.instructions.specs.declared.Made.{Made}
-use Rattle.instructions.specs.Plan.{made, asker}
+use Rattle.stores.specs.declared.Made.{Made}
+use Rattle.stores.specs.Plan.{made}
+use Rattle.instructions.specs.Meaning.{asker}
 use Rattle.encoding.specs.declared.Instr.{Instr}
 use Rattle.console.specs.declared.ConsoleState.{ConsoleState}
 use Rattle.console.specs.declared.Sent.{Sent}

@@ -17,7 +17,7 @@ use Rattle.definition.specs.Runtime as M
 use Rattle.memory.specs.Overlay.{overlay}
 use Rattle.registers.specs.Answer.{result}
 use Rattle.registers.specs.declared.Put.{Put}
-use Rattle.instructions.specs.declared.Made.{Made}
+use Rattle.stores.specs.declared.Made.{Made}
 use Rattle.encoding.specs.declared.Instr.{Instr}
 use Rattle.encoding.specs.Instr.{instrOf}
 use Rattle.console.specs.declared.ConsoleState.{ConsoleState}

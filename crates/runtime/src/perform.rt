@@ -5,15 +5,15 @@ use definition::Cell;
 use definition::Error;
 use definition::Registers;
 use encoding::Instr;
-use instructions::Made;
 use registers::Put;
+use stores::Made;
 ghost use mathlib.Core.Path.{_≡_};
 ghost use mathlib.Core.Bool.{Bool, true, false};
 ghost use lib.ListN.{length};
 ghost use Prim.Native.Nat.{ℕ, _<_, _≤_};
 ghost use Rattle.definition.specs.Constants.{CELLS-MOST};
 ghost use Rattle.definition.specs.Memory.{cellCount};
-ghost use Rattle.instructions.specs.Plan.{asker};
+ghost use Rattle.instructions.specs.Meaning.{asker};
 ghost use Rattle.runtime.specs.Meaning.{Serves, kept, keptMade};
 
 // An executed instruction, or `full`: it would write a byte past the output record.

@@ -6,7 +6,8 @@ use Rattle.definition.specs.Computer.{core, branch, return}
 use Rattle.definition.specs.Instructions.{jump}
 use Rattle.registers.specs.Answer.{putRes}
 use Rattle.arguments.specs.By.{argOf}
-use Rattle.instructions.proofs.Laws.{jump-yes, jump-no, branch-is}
+use Rattle.stores.proofs.Laws.{jump-yes, jump-no}
+use Rattle.instructions.proofs.Laws.{branch-is}
 use borrow.Author.Needs.{needs}
 use Rattle.instructions.proofs.jumps.jump_if.Statement.{statement}
 use Rattle.instructions.proofs.jumps.jump_if.Tie as tie

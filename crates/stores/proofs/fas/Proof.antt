@@ -8,16 +8,16 @@ use Rattle.memory.specs.Overlay.{overlay}
 use Rattle.registers.specs.declared.Put.{Put}
 use Rattle.registers.specs.Answer.{putRes, result}
 use Rattle.registers.proofs.Laws.{settled-is}
-use Rattle.instructions.specs.Plan.{madeRes, written}
-use Rattle.instructions.proofs.Laws.{none-written, fas-yes, fas-out, fas-no}
+use Rattle.stores.specs.Plan.{madeRes, written}
+use Rattle.stores.proofs.Laws.{none-written, fas-yes, fas-out, fas-no}
 use borrow.Author.Needs.{needs}
-use Rattle.instructions.proofs.stores.fas.Statement.{statement}
-use Rattle.instructions.proofs.stores.fas.Tie as tie
-use Rattle.instructions.proofs.stores.fas.Reads as reads
-use Rattle.instructions.proofs.stores.fas.Lts as lts
+use Rattle.stores.proofs.fas.Statement.{statement}
+use Rattle.stores.proofs.fas.Tie as tie
+use Rattle.stores.proofs.fas.Reads as reads
+use Rattle.stores.proofs.fas.Lts as lts
 use Rattle.arguments.proofs.resolve.Reads as resolve-reads
-use Rattle.instructions.proofs.stores.with_cell.Reads as with-cell-reads
-use Rattle.instructions.proofs.stores.with_none.Reads as with-none-reads
+use Rattle.stores.proofs.with_cell.Reads as with-cell-reads
+use Rattle.stores.proofs.with_none.Reads as with-none-reads
 use Rattle.memory.proofs.get.Reads as get-reads
 use Rattle.memory.proofs.word_cell.Reads as word-cell-reads
 use Rattle.registers.proofs.get_reg.Reads as get-reg-reads

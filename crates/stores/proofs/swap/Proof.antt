@@ -6,16 +6,16 @@ use Rattle.definition.specs.Computer.{core}
 use Rattle.definition.specs.Instructions.{swapBack}
 use Rattle.registers.specs.Answer.{putRes, result}
 use Rattle.arguments.specs.By.{argOf}
-use Rattle.instructions.specs.Plan.{madeRes}
-use Rattle.instructions.proofs.Laws.{none-written, swap-yes, swap-not, swap-no}
+use Rattle.stores.specs.Plan.{madeRes}
+use Rattle.stores.proofs.Laws.{none-written, swap-yes, swap-not, swap-no}
 use borrow.Author.Needs.{needs}
-use Rattle.instructions.proofs.stores.swap.Statement.{statement}
-use Rattle.instructions.proofs.stores.swap.Tie as tie
-use Rattle.instructions.proofs.stores.swap.Reads as reads
-use Rattle.instructions.proofs.stores.swap.Lts as lts
+use Rattle.stores.proofs.swap.Statement.{statement}
+use Rattle.stores.proofs.swap.Tie as tie
+use Rattle.stores.proofs.swap.Reads as reads
+use Rattle.stores.proofs.swap.Lts as lts
 use Rattle.arguments.proofs.extract_cell.Reads as extract-cell-reads
-use Rattle.instructions.proofs.stores.swap_back.Reads as swap-back-reads
-use Rattle.instructions.proofs.stores.with_none.Reads as with-none-reads
+use Rattle.stores.proofs.swap_back.Reads as swap-back-reads
+use Rattle.stores.proofs.with_none.Reads as with-none-reads
 use Rattle.registers.proofs.get_reg.Reads as get-reg-reads
 use Rattle.registers.proofs.put_reg.Reads as put-reg-reads
 use Rattle.registers.proofs.refuse.Reads as refuse-reads

@@ -1,12 +1,12 @@
 use mathlib.Core.Path.{_∙_}
 use Rattle.registers.specs.Answer.{result}
-use Rattle.instructions.proofs.Laws.{push-at}
+use Rattle.stores.proofs.Laws.{push-at}
 use borrow.Author.Needs.{needs}
-use Rattle.instructions.proofs.stores.push_cell.Statement.{statement}
-use Rattle.instructions.proofs.stores.push_cell.Tie as tie
-use Rattle.instructions.proofs.stores.push_cell.Reads as reads
-use Rattle.instructions.proofs.stores.push_cell.Lts as lts
-use Rattle.instructions.proofs.stores.write_at.Reads as write-at-reads
+use Rattle.stores.proofs.push_cell.Statement.{statement}
+use Rattle.stores.proofs.push_cell.Tie as tie
+use Rattle.stores.proofs.push_cell.Reads as reads
+use Rattle.stores.proofs.push_cell.Lts as lts
+use Rattle.stores.proofs.write_at.Reads as write-at-reads
 use Rattle.registers.proofs.below.Reads as below-reads
 
 below-requires : tie.Need-below-requires

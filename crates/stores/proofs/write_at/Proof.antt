@@ -1,15 +1,15 @@
 use mathlib.Core.Path.{_∙_, ap}
 use native.Mathlib.Omega.{arith}
 use Rattle.registers.specs.Answer.{putRes, result}
-use Rattle.instructions.specs.Plan.{madeRes, written}
-use Rattle.instructions.proofs.Laws.{none-written, write-in, write-out}
+use Rattle.stores.specs.Plan.{madeRes, written}
+use Rattle.stores.proofs.Laws.{none-written, write-in, write-out}
 use borrow.Author.Needs.{needs}
-use Rattle.instructions.proofs.stores.write_at.Statement.{statement}
-use Rattle.instructions.proofs.stores.write_at.Tie as tie
-use Rattle.instructions.proofs.stores.write_at.Reads as reads
-use Rattle.instructions.proofs.stores.write_at.Lts as lts
-use Rattle.instructions.proofs.stores.with_cell.Reads as with-cell-reads
-use Rattle.instructions.proofs.stores.with_none.Reads as with-none-reads
+use Rattle.stores.proofs.write_at.Statement.{statement}
+use Rattle.stores.proofs.write_at.Tie as tie
+use Rattle.stores.proofs.write_at.Reads as reads
+use Rattle.stores.proofs.write_at.Lts as lts
+use Rattle.stores.proofs.with_cell.Reads as with-cell-reads
+use Rattle.stores.proofs.with_none.Reads as with-none-reads
 use Rattle.registers.proofs.accept.Reads as accept-reads
 use Rattle.registers.proofs.refuse.Reads as refuse-reads
 

@@ -2,16 +2,16 @@ use mathlib.Core.Path.{sym, _∙_, ap}
 use lib.IntN.{natAbs}
 use Rattle.word.proofs.Laws.{back, address-cast, address-by}
 use Rattle.definition.specs.Memory.{asAddress}
-use Rattle.instructions.specs.Plan.{madeRes, written}
-use Rattle.instructions.proofs.Laws.{call-yes, call-not, call-no}
+use Rattle.stores.specs.Plan.{madeRes, written}
+use Rattle.stores.proofs.Laws.{call-yes, call-not, call-no}
 use borrow.Author.Needs.{needs}
-use Rattle.instructions.proofs.stores.call.Statement.{statement}
-use Rattle.instructions.proofs.stores.call.Tie as tie
-use Rattle.instructions.proofs.stores.call.Reads as reads
-use Rattle.instructions.proofs.stores.call.Lts as lts
+use Rattle.stores.proofs.call.Statement.{statement}
+use Rattle.stores.proofs.call.Tie as tie
+use Rattle.stores.proofs.call.Reads as reads
+use Rattle.stores.proofs.call.Lts as lts
 use Rattle.arguments.proofs.word_over.Reads as word-over-reads
-use Rattle.instructions.proofs.stores.push_cell.Reads as push-cell-reads
-use Rattle.instructions.proofs.stores.with_cell.Reads as with-cell-reads
+use Rattle.stores.proofs.push_cell.Reads as push-cell-reads
+use Rattle.stores.proofs.with_cell.Reads as with-cell-reads
 use Rattle.memory.proofs.address_cell.Reads as address-cell-reads
 use Rattle.registers.proofs.accept.Reads as accept-reads
 use Rattle.registers.proofs.get_reg.Reads as get-reg-reads

@@ -1,16 +1,16 @@
 use mathlib.Core.Path.{sym, _∙_, ap}
 use Rattle.word.proofs.Laws.{back}
 use Rattle.registers.specs.Answer.{putRes, result}
-use Rattle.instructions.specs.Plan.{madeRes}
-use Rattle.instructions.proofs.Laws.{none-written, push-yes, push-no}
+use Rattle.stores.specs.Plan.{madeRes}
+use Rattle.stores.proofs.Laws.{none-written, push-yes, push-no}
 use borrow.Author.Needs.{needs}
-use Rattle.instructions.proofs.stores.push.Statement.{statement}
-use Rattle.instructions.proofs.stores.push.Tie as tie
-use Rattle.instructions.proofs.stores.push.Reads as reads
-use Rattle.instructions.proofs.stores.push.Lts as lts
+use Rattle.stores.proofs.push.Statement.{statement}
+use Rattle.stores.proofs.push.Tie as tie
+use Rattle.stores.proofs.push.Reads as reads
+use Rattle.stores.proofs.push.Lts as lts
 use Rattle.arguments.proofs.extract_cell.Reads as extract-cell-reads
-use Rattle.instructions.proofs.stores.push_cell.Reads as push-cell-reads
-use Rattle.instructions.proofs.stores.with_none.Reads as with-none-reads
+use Rattle.stores.proofs.push_cell.Reads as push-cell-reads
+use Rattle.stores.proofs.with_none.Reads as with-none-reads
 use Rattle.registers.proofs.get_reg.Reads as get-reg-reads
 use Rattle.registers.proofs.refuse.Reads as refuse-reads
 

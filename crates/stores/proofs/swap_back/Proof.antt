@@ -2,16 +2,16 @@ use mathlib.Core.Path.{sym, _∙_, ap}
 use Rattle.word.proofs.Laws.{back}
 use Rattle.registers.specs.Answer.{putRes, result}
 use Rattle.registers.proofs.Laws.{settled-is}
-use Rattle.instructions.specs.Plan.{madeRes}
-use Rattle.instructions.proofs.Laws.{none-written, back-reg, back-yes, back-no}
+use Rattle.stores.specs.Plan.{madeRes}
+use Rattle.stores.proofs.Laws.{none-written, back-reg, back-yes, back-no}
 use borrow.Author.Needs.{needs}
-use Rattle.instructions.proofs.stores.swap_back.Statement.{statement}
-use Rattle.instructions.proofs.stores.swap_back.Tie as tie
-use Rattle.instructions.proofs.stores.swap_back.Reads as reads
-use Rattle.instructions.proofs.stores.swap_back.Lts as lts
+use Rattle.stores.proofs.swap_back.Statement.{statement}
+use Rattle.stores.proofs.swap_back.Tie as tie
+use Rattle.stores.proofs.swap_back.Reads as reads
+use Rattle.stores.proofs.swap_back.Lts as lts
 use Rattle.arguments.proofs.resolve.Reads as resolve-reads
-use Rattle.instructions.proofs.stores.with_none.Reads as with-none-reads
-use Rattle.instructions.proofs.stores.write_at.Reads as write-at-reads
+use Rattle.stores.proofs.with_none.Reads as with-none-reads
+use Rattle.stores.proofs.write_at.Reads as write-at-reads
 use Rattle.registers.proofs.get_reg.Reads as get-reg-reads
 use Rattle.registers.proofs.put_reg.Reads as put-reg-reads
 use Rattle.registers.proofs.refuse.Reads as refuse-reads

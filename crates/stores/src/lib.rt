@@ -1,6 +1,4 @@
-// The instructions that may write a cell. None writes: each answers the registers and the write that waits.
-use crate::Made;
-use crate::Plan;
+// instructions.rs, the instructions that may write a cell. None writes: each answers the registers and the write that waits.
 use arguments::Arg;
 use definition::Address;
 use definition::Cell;
@@ -17,7 +15,21 @@ ghost use Rattle.definition.specs.Registers.{regAt};
 ghost use Rattle.definition.specs.Computer.{core, write, push};
 ghost use Rattle.definition.specs.Instructions.{call, fas, pushOp, st, swap, swapBack};
 ghost use Rattle.arguments.specs.By.{argOf};
-ghost use Rattle.instructions.specs.Plan.{madeRes, written, unwritten};
+ghost use Rattle.stores.specs.Plan.{madeRes, written, unwritten};
+
+// The registers, and the one cell write that waits: v at `at`, which is outside where there is none.
+pub struct Plan {
+    pub s: Registers,
+    pub at: u32,
+    pub v: Cell,
+}
+
+// The answer of an instruction. Where ok, `error` is a filler.
+pub struct Made {
+    pub ok: bool,
+    pub error: Error,
+    pub p: Plan,
+}
 
 // The answer q, and v to be written at n.
 pub fn with_cell(q: Put, n: u32, v: Cell) -> Made

@@ -2,16 +2,16 @@ use mathlib.Core.Path.{sym, _∙_, ap}
 use Rattle.word.proofs.Laws.{back}
 use Rattle.definition.specs.Registers.{regAt}
 use Rattle.registers.specs.Answer.{putRes, result}
-use Rattle.instructions.specs.Plan.{madeRes}
-use Rattle.instructions.proofs.Laws.{none-written, st-yes, st-nowhere, st-no}
+use Rattle.stores.specs.Plan.{madeRes}
+use Rattle.stores.proofs.Laws.{none-written, st-yes, st-nowhere, st-no}
 use borrow.Author.Needs.{needs}
-use Rattle.instructions.proofs.stores.st.Statement.{statement}
-use Rattle.instructions.proofs.stores.st.Tie as tie
-use Rattle.instructions.proofs.stores.st.Reads as reads
-use Rattle.instructions.proofs.stores.st.Lts as lts
+use Rattle.stores.proofs.st.Statement.{statement}
+use Rattle.stores.proofs.st.Tie as tie
+use Rattle.stores.proofs.st.Reads as reads
+use Rattle.stores.proofs.st.Lts as lts
 use Rattle.arguments.proofs.resolve.Reads as resolve-reads
-use Rattle.instructions.proofs.stores.with_none.Reads as with-none-reads
-use Rattle.instructions.proofs.stores.write_at.Reads as write-at-reads
+use Rattle.stores.proofs.with_none.Reads as with-none-reads
+use Rattle.stores.proofs.write_at.Reads as write-at-reads
 use Rattle.memory.proofs.extract_word.Reads as extract-word-reads
 use Rattle.memory.proofs.word_cell.Reads as word-cell-reads
 use Rattle.registers.proofs.get_reg.Reads as get-reg-reads

@@ -1,20 +1,15 @@
 -- What an answer with a write that waits means in the definition.
-use mathlib.Core.Bool.{Bool, _||_}
 use mathlib.Core.List.{List}
 use Prim.Native.Nat.{ℕ}
 use lib.IntN.{ℤ}
-use lib.Dec.{eqb}
 use Rattle.definition.specs.declared.Cell.{Cell}
-use Rattle.definition.specs.declared.Error.the-variants.{CellError, InvalidMemoryAccess}
-use Rattle.definition.specs.Constants.{INTERRUPT-SR-SAVE}
-use Rattle.definition.specs.Memory.{empty, extractWord}
-use Rattle.definition.specs.Registers.{with-sr}
-use Rattle.definition.specs.Computer.{Core, Exec, Res, core, andThen, _>>=_, _>>_, change, orWord, read}
+use Rattle.definition.specs.Memory.{empty}
+use Rattle.definition.specs.Computer.{Core, Res, core}
 use Rattle.memory.specs.Overlay.{overlay}
 use Rattle.registers.specs.declared.Put.{Put}
 use Rattle.registers.specs.Answer.{result}
-use Rattle.instructions.specs.declared.Plan.{Plan}
-use Rattle.instructions.specs.declared.Made.{Made}
+use Rattle.stores.specs.declared.Plan.{Plan}
+use Rattle.stores.specs.declared.Made.{Made}
 
 -- The cells with the plan's write done, and with its registers.
 abbrev pub planned : List ℤ → Plan → List ℤ
@@ -35,14 +30,3 @@ written n v q = record { ok = q .ok; error = q .error; p = record { s = q .s; at
 
 abbrev pub unwritten : Put → Made
 unwritten q = written 4294967295 empty q
-
--- The operations that ask the console: in and out.
-abbrev pub asker : ℕ → Bool
-asker n = eqb n 6 || eqb n 20
-
--- The second half of rti.
-unfoldable pub rtiSr : Exec (Unit {0})
-rtiSr = do
-  u ← read INTERRUPT-SR-SAVE InvalidMemoryAccess
-  w ← λ c. orWord (extractWord u) CellError c
-  change (with-sr w)

@@ -1,0 +1,20 @@
+-- Parts of the definition that the code has names for.
+use mathlib.Core.Bool.{Bool, _||_}
+use Prim.Native.Nat.{ℕ}
+use lib.Dec.{eqb}
+use Rattle.definition.specs.declared.Error.the-variants.{CellError, InvalidMemoryAccess}
+use Rattle.definition.specs.Constants.{INTERRUPT-SR-SAVE}
+use Rattle.definition.specs.Memory.{extractWord}
+use Rattle.definition.specs.Registers.{with-sr}
+use Rattle.definition.specs.Computer.{Exec, andThen, _>>=_, _>>_, change, orWord, read}
+
+-- The operations that ask the console: in and out.
+abbrev pub asker : ℕ → Bool
+asker n = eqb n 6 || eqb n 20
+
+-- The second half of rti.
+unfoldable pub rtiSr : Exec (Unit {0})
+rtiSr = do
+  u ← read INTERRUPT-SR-SAVE InvalidMemoryAccess
+  w ← λ c. orWord (extractWord u) CellError c
+  change (with-sr w)
