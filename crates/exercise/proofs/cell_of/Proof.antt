@@ -1,0 +1,60 @@
+use mathlib.Core.Path.{_≡_}
+use lib.IntN.{pos}
+use mir.Syntax.{w64}
+use mir.Val.{toZ}
+use mir.Facts.{toZ-pos}
+use Rattle.word.proofs.Laws.{back}
+use native.Mathlib.Omega.{arith}
+use Prim.Native.Nat.{_<_, _/_, _%_}
+use Rattle.exercise.specs.Exercise.{cellOf}
+use Rattle.exercise.proofs.Made.{form-is, register-below}
+use borrow.Author.Needs.{needs}
+use Rattle.exercise.proofs.cell_of.Statement.{statement}
+use Rattle.exercise.proofs.cell_of.Tie as tie
+use Rattle.exercise.proofs.cell_of.Reads as reads
+use Rattle.exercise.proofs.cell_of.Lts as lts
+use Rattle.exercise.proofs.form_of.Reads as form-of-reads
+use Rattle.exercise.proofs.number.Reads as number-reads
+use Rattle.exercise.proofs.register.Reads as register-reads
+use Rattle.exercise.proofs.tag_of.Reads as tag-of-reads
+
+form-of-requires : tie.Need-form-of-requires
+form-of-requires c κs = search needs
+
+register-requires : tie.Need-register-requires
+register-requires c κs = search needs
+
+register-requires-2 : tie.Need-register-requires-2
+register-requires-2 c κs = search needs
+
+cast-w : tie.Need-cast-w
+cast-w c = search needs
+
+tag-of-requires : tie.Need-tag-of-requires
+tag-of-requires c κs = let a = c .before .before .before .args in
+    let k = c .before .before .form-of .result in
+    (omega (arith, form-is (a .d1) .1), omega (arith, register-below (k / 6 % 6) (a .d2 % 5) (omega arith)), omega (arith, register-below (k % 6) (a .d2 / 5 % 5) (omega arith)))
+
+number-requires : tie.Need-number-requires
+number-requires c κs = search needs
+
+number-requires-2 : tie.Need-number-requires-2
+number-requires-2 c κs = search needs
+
+returns : tie.Need-returns
+unfolding cellOf
+returns c = let w : toZ w64 (c .before .before .before .before .before .before .args .d3 % 16384) ≡ pos (c .before .before .before .before .before .before .args .d3 % 16384) = toZ-pos w64 (omega arith) in
+    cc (back (c .before .before .tag-of .result) (c .before .before .tag-of .ok), back (c .before .number .result) (c .before .number .ok), back (c .number2 .result) (c .number2 .ok), w)
+
+pub cell-of-spec : {M : Type 1} → statement M
+cell-of-spec =
+    tie.close
+    (tie.spec
+    form-of-requires
+    register-requires
+    register-requires-2
+    cast-w
+    tag-of-requires
+    number-requires
+    number-requires-2
+    returns)

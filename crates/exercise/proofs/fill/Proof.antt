@@ -1,0 +1,110 @@
+use Prim.Native.Nat.{ℕ}
+use mathlib.Core.List.{append-nil}
+use lib.Seq.{take-all}
+use mathlib.Core.Path.{refl, sym, _∙_, ap}
+use native.Mathlib.Omega.{arith}
+use native.Mathlib.Numerals.{add-one}
+use Prim.Native.Nat.{suc}
+use Rattle.exercise.specs.Exercise.{cellFrom, thirdState}
+use Rattle.exercise.proofs.Made.{made-more}
+use mathlib.Core.Path.{_≡_}
+use mathlib.Core.List.{_++_}
+use Prim.Native.Nat.{_*_, _-_, _/_, _≤_}
+use lib.ListN.{length, take}
+use borrow.Author.Needs.{needs}
+use Rattle.exercise.specs.Exercise.{made}
+use Rattle.exercise.proofs.fill.Statement.{statement}
+use Rattle.exercise.proofs.fill.Tie as tie
+use Rattle.exercise.proofs.fill.Reads as reads
+use Rattle.exercise.proofs.fill.Lts as lts
+use Rattle.exercise.proofs.cell_of.Reads as cell-of-reads
+use Rattle.exercise.proofs.draw.Reads as draw-reads
+use Rattle.exercise.proofs.next_state.Reads as next-state-reads
+use Rattle.memory.proofs.put_cell.Reads as put-cell-reads
+
+abbrev Inv-loop : tie.InvT-loop
+Inv-loop table image₀ seed count state₀ n₀ image state n = (n ≤ count) × ((length image ≡ length image₀) × (take (3 * n) image ++ made (count - n) state ≡ made count seed))
+
+abbrev μ-loop : tie.MeasureT-loop
+μ-loop table image₀ seed count state₀ n₀ image state n = count - n
+
+loop-holds : tie.Need-loop-holds Inv-loop μ-loop
+loop-holds c = let n = length (c .args .image .now) / 3 in
+    let e : n - 0 ≡ n = omega arith in
+    (search needs, (refl, ap (λ (k : ℕ). made k (c .args .seed)) e))
+
+next-state-requires : tie.Need-next-state-requires Inv-loop μ-loop
+next-state-requires c κs = search needs
+
+next-state-requires-2 : tie.Need-next-state-requires-2 Inv-loop μ-loop
+next-state-requires-2 c κs = search needs
+
+next-state-requires-3 : tie.Need-next-state-requires-3 Inv-loop μ-loop
+next-state-requires-3 c κs = search needs
+
+draw-requires : tie.Need-draw-requires Inv-loop μ-loop
+draw-requires c κs = search needs
+
+draw-requires-2 : tie.Need-draw-requires-2 Inv-loop μ-loop
+draw-requires-2 c κs = search needs
+
+draw-requires-3 : tie.Need-draw-requires-3 Inv-loop μ-loop
+draw-requires-3 c κs = search needs
+
+cell-of-requires : tie.Need-cell-of-requires Inv-loop μ-loop
+cell-of-requires c κs = search needs
+
+put-cell-requires : tie.Need-put-cell-requires Inv-loop μ-loop
+put-cell-requires c κs = search needs
+
+add-n : tie.Need-add-n Inv-loop μ-loop
+add-n c = search needs
+
+loop-less : tie.Need-loop-less Inv-loop μ-loop
+loop-less c = search needs
+
+loop-again : tie.Need-loop-again Inv-loop μ-loop
+unfolding cellFrom
+loop-again c = let i = c .before .before .before .before .before .before .before .before .before .before .before .loop .inv in
+    let l = c .before .before .before .before .before .before .before .before .before .before .before .loop .image in
+    let n = c .before .before .before .before .before .before .before .before .before .before .before .loop .n in
+    let s = c .before .before .before .before .before .before .before .before .before .before .before .loop .state in
+    let k = length (c .before .before .before .before .before .before .before .before .before .before .before .before .args .image .now) / 3 in
+    let v : c .before .before .cell-of .result ≡ cellFrom s = cc in
+    let t : c .before .before .before .before .before .before .before .next-state3 .result ≡ thirdState s = cc in
+    let m : k - n ≡ suc (k - suc n) = omega arith in
+    (search needs, (c .before .put-cell .kept .0 ∙ i .1 .0, rw (c .before .put-cell .ensures, t, add-one) (made-more l n (k - suc n) s (c .before .before .cell-of .result) (omega (arith, i .1 .0)) v ∙ (rw m at (i .1 .1)))))
+
+same-length : tie.Need-same-length Inv-loop μ-loop
+same-length c = search needs
+
+returns : tie.Need-returns Inv-loop μ-loop
+unfolding made
+returns c = let i = c .before .loop .inv in
+    let l = c .before .loop .image in
+    let n = c .before .loop .n in
+    let k = length (c .before .before .args .image .now) / 3 in
+    let z : k - n ≡ 0 = omega arith in
+    let w : take (3 * n) l ≡ l = take-all (3 * n) l (omega (arith, i .1 .0, c .before .before .pre .1)) in
+    sym (append-nil l) ∙ (rw (z, w) at (i .1 .1))
+
+pub fill-spec : {M : Type 1} → statement M
+fill-spec =
+    tie.close
+    (tie.spec
+    Inv-loop
+    μ-loop
+    loop-holds
+    next-state-requires
+    next-state-requires-2
+    next-state-requires-3
+    draw-requires
+    draw-requires-2
+    draw-requires-3
+    cell-of-requires
+    put-cell-requires
+    add-n
+    loop-less
+    loop-again
+    same-length
+    returns)

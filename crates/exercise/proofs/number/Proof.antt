@@ -1,0 +1,29 @@
+use mathlib.Core.Path.{_≡_, sym, _∙_}
+use mathlib.Core.Bool.{true, false}
+use mir.Facts.{toZ-ofZ}
+use Rattle.definition.specs.Encoding.{numberFits}
+use Rattle.exercise.specs.Exercise.{number}
+use borrow.Author.Needs.{needs}
+use Rattle.exercise.proofs.number.Statement.{statement}
+use Rattle.exercise.proofs.number.Tie as tie
+use Rattle.exercise.proofs.number.Reads as reads
+use Rattle.exercise.proofs.number.Lts as lts
+use Rattle.encoding.proofs.number_fits.Reads as number-fits-reads
+
+number-fits-requires : tie.Need-number-fits-requires
+number-fits-requires c κs = search needs
+
+returns : tie.Need-returns
+unfolding number
+returns c = let b = toZ-ofZ (c .before .before .fits .w) in
+    let e : numberFits (c .before .before .args .m) (c .before .before .args .w) ≡ true = sym (rw b at (c .before .number-fits .ensures)) ∙ c .if1 .taken in
+    rw (b, e)
+
+returns-2 : tie.Need-returns-2
+unfolding number
+returns-2 c = let b = toZ-ofZ (c .before .before .fits .w) in
+    let e : numberFits (c .before .before .args .m) (c .before .before .args .w) ≡ false = sym (rw b at (c .before .number-fits .ensures)) ∙ c .if1 .left in
+    rw e
+
+pub number-spec : {M : Type 1} → statement M
+number-spec = tie.close (tie.spec number-fits-requires returns returns-2)

@@ -1,0 +1,22 @@
+use mathlib.Core.Path.{sym, _∙_}
+use Rattle.exercise.specs.Exercise.{register}
+use borrow.Author.Needs.{needs}
+use Rattle.exercise.proofs.register.Statement.{statement}
+use Rattle.exercise.proofs.register.Tie as tie
+use Rattle.exercise.proofs.register.Reads as reads
+use Rattle.exercise.proofs.register.Lts as lts
+use Rattle.encoding.proofs.register_fits.Reads as register-fits-reads
+
+register-fits-requires : tie.Need-register-fits-requires
+register-fits-requires c κs = search needs
+
+returns : tie.Need-returns
+unfolding register
+returns c = rw (sym (c .before .register-fits .ensures) ∙ c .if1 .taken)
+
+returns-2 : tie.Need-returns-2
+unfolding register
+returns-2 c = rw (sym (c .before .register-fits .ensures) ∙ c .if1 .left)
+
+pub register-spec : {M : Type 1} → statement M
+register-spec = tie.close (tie.spec register-fits-requires returns returns-2)
