@@ -1,17 +1,17 @@
 -- The forms, the cells made from them, and their list.
-use mathlib.Core.Path.{_≡_, refl, sym, _∙_, ap}
 use mathlib.Core.Bool.{Bool, true, false, cond, true≢false}
 use mathlib.Core.List.{List, [], _∷_, _++_, append-assoc}
+use mathlib.Core.Path.{_≡_, refl, sym, _∙_, ap}
 use Prim.Native.Nat.{ℕ, zero, suc, _+_, _*_, _-_, _/_, _%_, _<_, _≤_}
 use native.Mathlib.Omega.{arith}
-use lib.IntN.{ℤ, pos}
 use lib.Dec.{eqb}
+use lib.IntN.{ℤ, pos}
 use lib.ListN.{length, getD, take, set, length-set}
 use lib.Seq.{take-suc-set, append-snoc}
 use borrow.Author.Tests.{eqb-true, eqb-false}
+use Rattle.definition.specs.Encoding.{allows, signature, opAt, legal, tagOf, registerFits, numberFits, soundInstruction, soundAt, sound}
+use Rattle.definition.specs.Memory.{cellAt, putCell}
 use Rattle.definition.specs.declared.Cell.{Cell}
-use Rattle.definition.specs.Memory.{cell, cellAt, putCell}
-use Rattle.definition.specs.Encoding.{Kind, NoOperand, ImmRegDirIndIdx, DirIndIdx, RegDirIndIdx, ImmReg, JustReg, allows, signature, opAt, legal, tagOf, registerFits, numberFits, soundInstruction, soundAt, sound}
 use Rattle.encoding.proofs.Sound.{at-place, registers}
 use Rattle.exercise.specs.Exercise.{nextState, draw, isForm, formsFrom, forms, formOf, register, number, cellOf, thirdState, cellFrom, made}
 

@@ -1,19 +1,20 @@
 -- What holds of every exercise load.
-use mathlib.Core.Path.{_≡_, refl, sym, _∙_, ap}
 use mathlib.Core.Bool.{Bool, true, false, _&&_}
-use mathlib.Core.List.{List}
-use Prim.Native.Nat.{ℕ, zero, suc, _+_, _*_, _-_, _/_, _%_, _<_, _≤_, _^_}
+use mathlib.Core.List.{List, [], _∷_}
+use mathlib.Core.Path.{_≡_, refl, sym, _∙_, ap}
+use Prim.Native.Nat.{ℕ, zero, suc, _+_, _*_, _/_, _%_, _<_, _≤_, _^_}
 use native.Mathlib.Omega.{arith}
-use lib.IntN.{ℤ, pos}
 use lib.Dec.{ltb, leb, eqb}
+use lib.IntN.{ℤ, pos}
 use lib.ListN.{length, getD, take}
 use borrow.Author.Tests.{ltb-true, leb-true, eqb-true, eqb-false, eq-eqb, ne-eqb}
-use Rattle.definition.specs.declared.Counted.{Counted}
-use Rattle.definition.specs.Memory.{cellCount, cellAt}
-use Rattle.definition.specs.Encoding.{Kind, NoOperand, ImmRegDirIndIdx, DirIndIdx, RegDirIndIdx, ImmReg, JustReg, signature, opAt, allows, legal, tagOf, sound}
 use Rattle.definition.specs.Calls.{Called, called, verdict}
+use Rattle.definition.specs.Encoding.{Kind, NoOperand, ImmRegDirIndIdx, DirIndIdx, RegDirIndIdx, ImmReg, JustReg, signature, opAt, allows, legal, tagOf, registerFits, numberFits, isAddress, sound}
+use Rattle.definition.specs.Word.{addressOf}
+use Rattle.definition.specs.Memory.{cellCount, cellAt}
+use Rattle.definition.specs.declared.Counted.{Counted}
 use Rattle.encoding.proofs.Rule.{both}
-use Rattle.exercise.specs.Exercise.{nextState, draw, isForm, forms, formOf, register, cellOf, cellFrom, made, exerciseCheck, exercise}
+use Rattle.exercise.specs.Exercise.{nextState, draw, isForm, formsFrom, forms, formOf, register, number, cellOf, cellFrom, made, exerciseCheck, exercise}
 use Rattle.exercise.specs.Laws.{Occurs, ExerciseLaws}
 use Rattle.exercise.proofs.Made.{count, placed, register-below, length-made, made-sound, made-first}
 
@@ -139,6 +140,15 @@ first-image x y seed h k l =
     let e : length x ≡ 3 * cellCount x = omega arith in
     rw (done x seed h, done y seed k) (ap (λ (n : ℕ). take n (made (cellCount y) seed)) e ∙ made-first (cellCount x) (cellCount y) seed (omega arith))
 
+-- the definition worked out on two seeds
+least : made 3 0 ≡ pos 2572 ∷ pos 14370 ∷ pos 0 ∷ pos 17602 ∷ pos 16182 ∷ pos 0 ∷ pos 202 ∷ pos 7105 ∷ pos 0 ∷ []
+unfolding made cellFrom cellOf draw nextState formOf forms formsFrom legal allows signature opAt register registerFits number numberFits isAddress addressOf
+least = refl
+
+largest : made 3 18446744073709551615 ≡ pos 26304 ∷ pos 3755 ∷ pos 0 ∷ pos 29302 ∷ pos 15494 ∷ pos 0 ∷ pos 10052 ∷ pos 11569 ∷ pos 0 ∷ []
+unfolding made cellFrom cellOf draw nextState formOf forms formsFrom legal allows signature opAt register registerFits number numberFits isAddress addressOf
+largest = refl
+
 pub promised : ExerciseLaws
 promised =
     record {
@@ -147,5 +157,7 @@ promised =
       occurs = form-occurs;
       count = count;
       same-first = λ x y seed h k l. first-image x y seed (three x seed h) (three y seed k) l;
+      of-least = least;
+      of-largest = largest;
       keeps = left-kept;
     }

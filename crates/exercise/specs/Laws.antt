@@ -2,13 +2,13 @@
 use mathlib.Core.Path.{_≡_}
 use mathlib.Core.Logic.{_≢_}
 use mathlib.Core.Bool.{true}
-use mathlib.Core.List.{List}
+use mathlib.Core.List.{List, [], _∷_}
 use Prim.Native.Nat.{ℕ, _*_, _<_, _≤_, _^_}
 use lib.IntN.{ℤ, pos}
 use lib.ListN.{length, take}
 use Rattle.definition.specs.Memory.{cellAt}
 use Rattle.definition.specs.Encoding.{legal, tagOf, sound}
-use Rattle.exercise.specs.Exercise.{forms, exercise, cellFrom}
+use Rattle.exercise.specs.Exercise.{forms, made, exercise, cellFrom}
 
 -- A 64-bit seed whose first cell has this form.
 pub record Occurs (o m₁ m₂ : ℕ) : Type 0 where
@@ -31,5 +31,8 @@ pub record ExerciseLaws : Type 0 where
   -- "the first n cells don't depend on how many are made"
   pub same-first : (x y : List ℤ) (seed : ℕ) → exercise x seed .answer .refusal ≡ 0 → exercise y seed .answer .refusal ≡ 0 → length x ≤ length y
       → take (length x) (exercise y seed .left) ≡ exercise x seed .left
+  -- Three cells of the least and of the largest seed, worked out from document 02 apart from this definition.
+  pub of-least : made 3 0 ≡ pos 2572 ∷ pos 14370 ∷ pos 0 ∷ pos 17602 ∷ pos 16182 ∷ pos 0 ∷ pos 202 ∷ pos 7105 ∷ pos 0 ∷ []
+  pub of-largest : made 3 18446744073709551615 ≡ pos 26304 ∷ pos 3755 ∷ pos 0 ∷ pos 29302 ∷ pos 15494 ∷ pos 0 ∷ pos 10052 ∷ pos 11569 ∷ pos 0 ∷ []
   -- A refused call changes nothing.
   pub keeps : (image : List ℤ) (seed : ℕ) → exercise image seed .answer .refusal ≢ 0 → exercise image seed .left ≡ image

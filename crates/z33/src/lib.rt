@@ -1,6 +1,6 @@
 // The calls of document 01 on numbers and slices, as exported C functions. Each answers and leaves what the definition's Calls says.
 pub mod cells;
-pub mod exercise;
+pub mod fill;
 pub mod fresh;
 pub mod raise;
 pub mod register;

@@ -1,22 +1,17 @@
+-- `exercise::cell_of` meets its contract.
 use mathlib.Core.Path.{_≡_}
+use Prim.Native.Nat.{_/_, _%_}
+use native.Mathlib.Omega.{arith}
 use lib.IntN.{pos}
+use mir.Facts.{toZ-pos}
 use mir.Syntax.{w64}
 use mir.Val.{toZ}
-use mir.Facts.{toZ-pos}
+use borrow.Author.Needs.{needs}
 use Rattle.word.proofs.Laws.{back}
-use native.Mathlib.Omega.{arith}
-use Prim.Native.Nat.{_<_, _/_, _%_}
 use Rattle.exercise.specs.Exercise.{cellOf}
 use Rattle.exercise.proofs.Made.{form-is, register-below}
-use borrow.Author.Needs.{needs}
 use Rattle.exercise.proofs.cell_of.Statement.{statement}
 use Rattle.exercise.proofs.cell_of.Tie as tie
-use Rattle.exercise.proofs.cell_of.Reads as reads
-use Rattle.exercise.proofs.cell_of.Lts as lts
-use Rattle.exercise.proofs.form_of.Reads as form-of-reads
-use Rattle.exercise.proofs.number.Reads as number-reads
-use Rattle.exercise.proofs.register.Reads as register-reads
-use Rattle.exercise.proofs.tag_of.Reads as tag-of-reads
 
 form-of-requires : tie.Need-form-of-requires
 form-of-requires c κs = search needs

@@ -1,10 +1,9 @@
+-- `exercise::draw` meets its contract.
 use mathlib.Core.Path.{refl}
-use Rattle.exercise.specs.Exercise.{draw}
 use borrow.Author.Needs.{needs}
+use Rattle.exercise.specs.Exercise.{draw}
 use Rattle.exercise.proofs.draw.Statement.{statement}
 use Rattle.exercise.proofs.draw.Tie as tie
-use Rattle.exercise.proofs.draw.Reads as reads
-use Rattle.exercise.proofs.draw.Lts as lts
 
 cast-result : tie.Need-cast-result
 cast-result c = search needs

@@ -1,14 +1,12 @@
+-- `exercise::exercise` meets its contract.
 use mathlib.Core.Path.{refl}
-use borrow.Author.Tests.{eq-eqb, ne-eqb}
-use Rattle.definition.specs.Encoding.{legal, allows, signature, opAt}
-use Rattle.definition.specs.Calls.{verdict}
-use Rattle.exercise.specs.Exercise.{exercise, exerciseCheck, forms, formsFrom}
 use borrow.Author.Needs.{needs}
+use borrow.Author.Tests.{eq-eqb, ne-eqb}
+use Rattle.definition.specs.Calls.{verdict}
+use Rattle.definition.specs.Encoding.{legal, allows, signature, opAt}
+use Rattle.exercise.specs.Exercise.{exercise, exerciseCheck, forms, formsFrom}
 use Rattle.exercise.proofs.exercise.Statement.{statement}
 use Rattle.exercise.proofs.exercise.Tie as tie
-use Rattle.exercise.proofs.exercise.Reads as reads
-use Rattle.exercise.proofs.exercise.Lts as lts
-use Rattle.exercise.proofs.fill.Reads as fill-reads
 
 fill-requires : tie.Need-fill-requires
 unfolding forms formsFrom legal allows signature opAt

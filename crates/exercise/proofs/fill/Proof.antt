@@ -1,26 +1,16 @@
-use Prim.Native.Nat.{ℕ}
-use mathlib.Core.List.{append-nil}
-use lib.Seq.{take-all}
-use mathlib.Core.Path.{refl, sym, _∙_, ap}
-use native.Mathlib.Omega.{arith}
+-- `exercise::fill` meets its contract.
+use mathlib.Core.List.{append-nil, _++_}
+use mathlib.Core.Path.{refl, sym, _∙_, ap, _≡_}
+use Prim.Native.Nat.{ℕ, suc, _*_, _-_, _/_, _≤_}
 use native.Mathlib.Numerals.{add-one}
-use Prim.Native.Nat.{suc}
-use Rattle.exercise.specs.Exercise.{cellFrom, thirdState}
-use Rattle.exercise.proofs.Made.{made-more}
-use mathlib.Core.Path.{_≡_}
-use mathlib.Core.List.{_++_}
-use Prim.Native.Nat.{_*_, _-_, _/_, _≤_}
+use native.Mathlib.Omega.{arith}
 use lib.ListN.{length, take}
+use lib.Seq.{take-all}
 use borrow.Author.Needs.{needs}
-use Rattle.exercise.specs.Exercise.{made}
+use Rattle.exercise.specs.Exercise.{cellFrom, thirdState, made}
+use Rattle.exercise.proofs.Made.{made-more}
 use Rattle.exercise.proofs.fill.Statement.{statement}
 use Rattle.exercise.proofs.fill.Tie as tie
-use Rattle.exercise.proofs.fill.Reads as reads
-use Rattle.exercise.proofs.fill.Lts as lts
-use Rattle.exercise.proofs.cell_of.Reads as cell-of-reads
-use Rattle.exercise.proofs.draw.Reads as draw-reads
-use Rattle.exercise.proofs.next_state.Reads as next-state-reads
-use Rattle.memory.proofs.put_cell.Reads as put-cell-reads
 
 abbrev Inv-loop : tie.InvT-loop
 Inv-loop table image₀ seed count state₀ n₀ image state n = (n ≤ count) × ((length image ≡ length image₀) × (take (3 * n) image ++ made (count - n) state ≡ made count seed))

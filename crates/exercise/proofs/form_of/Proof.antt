@@ -1,13 +1,12 @@
-use mathlib.Core.Path.{ap}
+-- `exercise::form_of` meets its contract.
 use mathlib.Core.List.{List}
+use mathlib.Core.Path.{ap}
 use Prim.Native.Nat.{ℕ, _%_}
 use lib.ListN.{getD}
-use Rattle.exercise.specs.Exercise.{formOf}
 use borrow.Author.Needs.{needs}
+use Rattle.exercise.specs.Exercise.{formOf}
 use Rattle.exercise.proofs.form_of.Statement.{statement}
 use Rattle.exercise.proofs.form_of.Tie as tie
-use Rattle.exercise.proofs.form_of.Reads as reads
-use Rattle.exercise.proofs.form_of.Lts as lts
 
 cast-result : tie.Need-cast-result
 cast-result c = search needs

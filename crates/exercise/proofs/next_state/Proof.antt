@@ -1,12 +1,9 @@
+-- `exercise::next_state` meets its contract.
 use native.Mathlib.Omega.{arith}
-use Rattle.exercise.specs.Exercise.{nextState}
 use borrow.Author.Needs.{needs}
+use Rattle.exercise.specs.Exercise.{nextState}
 use Rattle.exercise.proofs.next_state.Statement.{statement}
 use Rattle.exercise.proofs.next_state.Tie as tie
-use Rattle.exercise.proofs.next_state.Reads as reads
-use Rattle.exercise.proofs.next_state.Lts as lts
-use Rattle.std.proofs.num.wrapping_add_u64.Reads as wrapping-add-u64-reads
-use Rattle.word.proofs.wrapping_mul.Reads as wrapping-mul-reads
 
 wrapping-mul-requires : tie.Need-wrapping-mul-requires
 wrapping-mul-requires c κs = search needs

@@ -1,14 +1,12 @@
-use mathlib.Core.Path.{_≡_, sym, _∙_}
+-- `exercise::number` meets its contract.
 use mathlib.Core.Bool.{true, false}
+use mathlib.Core.Path.{_≡_, sym, _∙_}
 use mir.Facts.{toZ-ofZ}
+use borrow.Author.Needs.{needs}
 use Rattle.definition.specs.Encoding.{numberFits}
 use Rattle.exercise.specs.Exercise.{number}
-use borrow.Author.Needs.{needs}
 use Rattle.exercise.proofs.number.Statement.{statement}
 use Rattle.exercise.proofs.number.Tie as tie
-use Rattle.exercise.proofs.number.Reads as reads
-use Rattle.exercise.proofs.number.Lts as lts
-use Rattle.encoding.proofs.number_fits.Reads as number-fits-reads
 
 number-fits-requires : tie.Need-number-fits-requires
 number-fits-requires c κs = search needs

@@ -1,11 +1,9 @@
+-- `exercise::register` meets its contract.
 use mathlib.Core.Path.{sym, _∙_}
-use Rattle.exercise.specs.Exercise.{register}
 use borrow.Author.Needs.{needs}
+use Rattle.exercise.specs.Exercise.{register}
 use Rattle.exercise.proofs.register.Statement.{statement}
 use Rattle.exercise.proofs.register.Tie as tie
-use Rattle.exercise.proofs.register.Reads as reads
-use Rattle.exercise.proofs.register.Lts as lts
-use Rattle.encoding.proofs.register_fits.Reads as register-fits-reads
 
 register-fits-requires : tie.Need-register-fits-requires
 register-fits-requires c κs = search needs

@@ -1,15 +1,14 @@
+-- `exercise::tag_of` meets its contract.
 use mathlib.Core.Path.{_≡_, _∙_, ap}
 use Prim.Native.Nat.{_+_, _*_, _/_, _%_}
 use native.Mathlib.Omega.{arith}
 use lib.IntN.{pos}
-use mir.Syntax.{w64}
 use mir.Facts.{toZ-pos}
-use Rattle.definition.specs.Encoding.{tagOf}
+use mir.Syntax.{w64}
 use borrow.Author.Needs.{needs}
+use Rattle.definition.specs.Encoding.{tagOf}
 use Rattle.exercise.proofs.tag_of.Statement.{statement}
 use Rattle.exercise.proofs.tag_of.Tie as tie
-use Rattle.exercise.proofs.tag_of.Reads as reads
-use Rattle.exercise.proofs.tag_of.Lts as lts
 
 mul-result : tie.Need-mul-result
 mul-result c = search needs
