@@ -10,8 +10,8 @@ use lib.ListN.{length, getD, take}
 use borrow.Author.Tests.{ltb-true, leb-true, eqb-true, eqb-false, eq-eqb, ne-eqb}
 use Rattle.definition.specs.Calls.{Called, called, verdict}
 use Rattle.definition.specs.Encoding.{Kind, NoOperand, ImmRegDirIndIdx, DirIndIdx, RegDirIndIdx, ImmReg, JustReg, signature, opAt, allows, legal, tagOf, registerFits, numberFits, isAddress, sound}
-use Rattle.definition.specs.Word.{addressOf}
 use Rattle.definition.specs.Memory.{cellCount, cellAt}
+use Rattle.definition.specs.Word.{addressOf}
 use Rattle.definition.specs.declared.Counted.{Counted}
 use Rattle.encoding.proofs.Rule.{both}
 use Rattle.exercise.specs.Exercise.{nextState, draw, isForm, formsFrom, forms, formOf, register, number, cellOf, cellFrom, made, exerciseCheck, exercise}

@@ -4,8 +4,9 @@ pub mod forms;
 use definition::Cell;
 use definition::Counted;
 ghost use mathlib.Core.Path.{_≡_};
-ghost use Prim.Native.Nat.{_/_, _%_, _<_};
+ghost use Prim.Native.Nat.{_/_, _%_};
 ghost use lib.IntN.{pos};
+ghost use lib.Dec.{eqb};
 ghost use lib.ListN.{length};
 ghost use Rattle.definition.specs.Memory.{cellCount};
 ghost use Rattle.definition.specs.Encoding.{tagOf};
@@ -53,10 +54,9 @@ pub fn number(m: u32, w: i64) -> i64
 
 // The tag of the entry k with two registers.
 pub fn tag_of(k: u32, r1: u32, r2: u32) -> i64
-    requires { ⌜ (k < 1188) × (r1 < 5) × (r2 < 5) ⌝ }
     ensures { λ t. ⌜ t ≡ pos (tagOf (k / 36) (k / 6 % 6) (k % 6) r1 r2) ⌝ }
 {
-    (2 + (k * 25 + r1 * 5 + r2)) as i64
+    (2 + (k as u64 * 25 + r1 as u64 * 5 + r2 as u64)) as i64
 }
 
 // "Three draws make a cell"
@@ -94,12 +94,19 @@ fn fill(table: &[u32; 124], image: &mut [i64], seed: u64)
     }
 }
 
+// "9. The image is no whole number of cells": whether so many numbers are.
+pub fn is_whole(length: usize) -> bool
+    ensures { λ b. ⌜ b ≡ eqb (length % 3) 0 ⌝ }
+{
+    length % 3 == 0
+}
+
 // "A lent image is filled from a 64-bit seed"
 pub fn exercise(image: &mut [i64], seed: u64) -> Counted
     ensures { λ r. ⌜ called r (now (image .exit)) ≡ exercise (now (image .entry)) seed ⌝ }
 {
     let count = image.len() / 3;
-    if image.len() % 3 == 0 {
+    if is_whole(image.len()) {
         let table = &forms::FORMS;
         fill(table, image, seed);
         return Counted {

@@ -1,6 +1,6 @@
 -- `exercise::cell_of` meets its contract.
 use mathlib.Core.Path.{_≡_}
-use Prim.Native.Nat.{_/_, _%_}
+use Prim.Native.Nat.{_%_}
 use native.Mathlib.Omega.{arith}
 use lib.IntN.{pos}
 use mir.Facts.{toZ-pos}
@@ -9,7 +9,6 @@ use mir.Val.{toZ}
 use borrow.Author.Needs.{needs}
 use Rattle.word.proofs.Laws.{back}
 use Rattle.exercise.specs.Exercise.{cellOf}
-use Rattle.exercise.proofs.Made.{form-is, register-below}
 use Rattle.exercise.proofs.cell_of.Statement.{statement}
 use Rattle.exercise.proofs.cell_of.Tie as tie
 
@@ -26,9 +25,7 @@ cast-w : tie.Need-cast-w
 cast-w c = search needs
 
 tag-of-requires : tie.Need-tag-of-requires
-tag-of-requires c κs = let a = c .before .before .before .args in
-    let k = c .before .before .form-of .result in
-    (omega (arith, form-is (a .d1) .1), omega (arith, register-below (k / 6 % 6) (a .d2 % 5) (omega arith)), omega (arith, register-below (k % 6) (a .d2 / 5 % 5) (omega arith)))
+tag-of-requires c κs = search needs
 
 number-requires : tie.Need-number-requires
 number-requires c κs = search needs
@@ -39,7 +36,7 @@ number-requires-2 c κs = search needs
 returns : tie.Need-returns
 unfolding cellOf
 returns c = let w : toZ w64 (c .before .before .before .before .before .before .args .d3 % 16384) ≡ pos (c .before .before .before .before .before .before .args .d3 % 16384) = toZ-pos w64 (omega arith) in
-    cc (back (c .before .before .tag-of .result) (c .before .before .tag-of .ok), back (c .before .number .result) (c .before .number .ok), back (c .number2 .result) (c .number2 .ok), w)
+    rw (back (c .before .before .tag-of .result) (c .before .before .tag-of .ok), back (c .before .number .result) (c .before .number .ok), back (c .number2 .result) (c .number2 .ok), c .before .before .tag-of .ensures, c .before .number .ensures, c .number2 .ensures, w, c .before .before .before .before .register .ensures, c .before .before .before .register2 .ensures, c .before .before .before .before .before .form-of .ensures)
 
 pub cell-of-spec : {M : Type 1} → statement M
 cell-of-spec =

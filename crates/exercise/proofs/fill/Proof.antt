@@ -60,8 +60,8 @@ loop-again c = let i = c .before .before .before .before .before .before .before
     let n = c .before .before .before .before .before .before .before .before .before .before .before .loop .n in
     let s = c .before .before .before .before .before .before .before .before .before .before .before .loop .state in
     let k = length (c .before .before .before .before .before .before .before .before .before .before .before .before .args .image .now) / 3 in
-    let v : c .before .before .cell-of .result ≡ cellFrom s = cc in
-    let t : c .before .before .before .before .before .before .before .next-state3 .result ≡ thirdState s = cc in
+    let t : c .before .before .before .before .before .before .before .next-state3 .result ≡ thirdState s = rw (c .before .before .before .before .before .before .before .next-state3 .ensures, c .before .before .before .before .before .before .before .before .next-state2 .ensures, c .before .before .before .before .before .before .before .before .before .next-state .ensures) in
+    let v : c .before .before .cell-of .result ≡ cellFrom s = rw (c .before .before .cell-of .ensures, c .before .before .before .before .before .draw .ensures, c .before .before .before .before .draw2 .ensures, c .before .before .before .draw3 .ensures, c .before .before .before .before .before .before .before .next-state3 .ensures, c .before .before .before .before .before .before .before .before .next-state2 .ensures, c .before .before .before .before .before .before .before .before .before .next-state .ensures) in
     let m : k - n ≡ suc (k - suc n) = omega arith in
     (search needs, (c .before .put-cell .kept .0 ∙ i .1 .0, rw (c .before .put-cell .ensures, t, add-one) (made-more l n (k - suc n) s (c .before .before .cell-of .result) (omega (arith, i .1 .0)) v ∙ (rw m at (i .1 .1)))))
 
