@@ -113,6 +113,15 @@ cell-sound d₁ d₂ d₃ =
 
 -- ---- the list of cells
 
+-- "the first n cells don't depend on how many are made"
+pub made-first : (n m s : ℕ) → n ≤ m → take (3 * n) (made m s) ≡ made n s
+unfolding made
+made-first zero m s h = refl
+made-first (suc n) zero s h = absurd (omega arith)
+made-first (suc n) (suc m) s h =
+    let e : 3 * suc n ≡ suc (suc (suc (3 * n))) = omega arith in
+    rw e (ap (λ (l : List ℤ). cellFrom s .tag ∷ cellFrom s .first ∷ cellFrom s .second ∷ l) (made-first n m (thirdState s) (omega arith)))
+
 pub length-made : (n s : ℕ) → length (made n s) ≡ 3 * n
 unfolding made
 length-made zero s = refl
@@ -140,15 +149,6 @@ made-sound zero s i h = absurd (omega arith)
 made-sound (suc n) s zero h = rw (cell-first (cellFrom s) (made n (thirdState s))) (from-sound s)
 made-sound (suc n) s (suc i) h = rw (cell-next _ _ _ (made n (thirdState s)) i) (made-sound n (thirdState s) i (omega arith))
 
--- "the first n cells don't depend on how many are made"
-pub made-first : (n m s : ℕ) → n ≤ m → take (3 * n) (made m s) ≡ made n s
-unfolding made
-made-first zero m s h = refl
-made-first (suc n) zero s h = absurd (omega arith)
-made-first (suc n) (suc m) s h =
-    let e : 3 * suc n ≡ suc (suc (suc (3 * n))) = omega arith in
-    rw e (ap (λ (l : List ℤ). cellFrom s .tag ∷ cellFrom s .first ∷ cellFrom s .second ∷ l) (made-first n m (thirdState s) (omega arith)))
-
 -- ---- one more cell of the image is made
 
 front : (l : List ℤ) (a : ℕ) (t f s : ℤ) → a + 2 < length l → take (a + 3) (set (set (set l a t) (a + 1) f) (a + 2) s) ≡ take a l ++ (t ∷ f ∷ s ∷ [])
@@ -171,3 +171,9 @@ made-more l n m s v h e =
     let a : 3 * suc n ≡ 3 * n + 3 = omega arith in
     rw (a, front l (3 * n) (v .tag) (v .first) (v .second) h, e)
     (append-assoc (take (3 * n) l) (cellFrom s .tag ∷ cellFrom s .first ∷ cellFrom s .second ∷ []) (made m (thirdState s)))
+
+-- The cell that the code draws, state by state.
+pub cell-drawn : (s : ℕ) {s₁ s₂ s₃ d₁ d₂ d₃ : ℕ} → s₁ ≡ nextState s → s₂ ≡ nextState s₁ → s₃ ≡ nextState s₂ → d₁ ≡ draw s₁ → d₂ ≡ draw s₂ → d₃ ≡ draw s₃
+    → cellOf d₁ d₂ d₃ ≡ cellFrom s
+unfolding cellFrom
+cell-drawn s e₁ e₂ e₃ f₁ f₂ f₃ = rw (f₁, f₂, f₃, e₃, e₂, e₁)

@@ -105,14 +105,14 @@ pub fn is_whole(length: usize) -> bool
 pub fn exercise(image: &mut [i64], seed: u64) -> Counted
     ensures { λ r. ⌜ called r (now (image .exit)) ≡ exercise (now (image .entry)) seed ⌝ }
 {
-    let count = image.len() / 3;
+    let cells = image.len() / 3;
     if is_whole(image.len()) {
         let table = &forms::FORMS;
         fill(table, image, seed);
         return Counted {
             refusal: 0,
             place: 0,
-            count: count as u64,
+            count: cells as u64,
         };
     }
     Counted {

@@ -1,6 +1,6 @@
 -- `exercise::cell_of` meets its contract.
-use mathlib.Core.Path.{_≡_}
-use Prim.Native.Nat.{_%_}
+use mathlib.Core.Path.{_≡_, refl, _∙_, ap}
+use Prim.Native.Nat.{_/_, _%_}
 use native.Mathlib.Omega.{arith}
 use lib.IntN.{pos}
 use mir.Facts.{toZ-pos}
@@ -8,9 +8,11 @@ use mir.Syntax.{w64}
 use mir.Val.{toZ}
 use borrow.Author.Needs.{needs}
 use Rattle.word.proofs.Laws.{back}
-use Rattle.exercise.specs.Exercise.{cellOf}
+use Rattle.exercise.specs.Exercise.{cellOf, number}
 use Rattle.exercise.proofs.cell_of.Statement.{statement}
 use Rattle.exercise.proofs.cell_of.Tie as tie
+
+-- `exercise::cell_of` meets its contract.
 
 form-of-requires : tie.Need-form-of-requires
 form-of-requires c κs = search needs
@@ -35,8 +37,12 @@ number-requires-2 c κs = search needs
 
 returns : tie.Need-returns
 unfolding cellOf
-returns c = let w : toZ w64 (c .before .before .before .before .before .before .args .d3 % 16384) ≡ pos (c .before .before .before .before .before .before .args .d3 % 16384) = toZ-pos w64 (omega arith) in
-    rw (back (c .before .before .tag-of .result) (c .before .before .tag-of .ok), back (c .before .number .result) (c .before .number .ok), back (c .number2 .result) (c .number2 .ok), c .before .before .tag-of .ensures, c .before .number .ensures, c .number2 .ensures, w, c .before .before .before .before .register .ensures, c .before .before .before .register2 .ensures, c .before .before .before .before .before .form-of .ensures)
+returns c = let a = c .before .before .before .before .before .before .args in
+    let k = c .before .before .before .before .before .form-of .result in
+    let w : toZ w64 (a .d3 % 16384) ≡ pos (a .d3 % 16384) = toZ-pos w64 (omega arith) in
+    let n₁ : c .before .number .result ≡ number (k / 6 % 6) (pos (a .d3 % 16384)) = c .before .number .ensures ∙ ap (number (k / 6 % 6)) w in
+    let n₂ : c .number2 .result ≡ number (k % 6) (pos (a .d3 % 16384)) = c .number2 .ensures ∙ ap (number (k % 6)) w in
+    rw (back (c .before .before .tag-of .result) (c .before .before .tag-of .ok), back (c .before .number .result) (c .before .number .ok), back (c .number2 .result) (c .number2 .ok), c .before .before .tag-of .ensures, n₁, n₂, c .before .before .before .before .register .ensures, c .before .before .before .register2 .ensures, c .before .before .before .before .before .form-of .ensures) refl
 
 pub cell-of-spec : {M : Type 1} → statement M
 cell-of-spec =

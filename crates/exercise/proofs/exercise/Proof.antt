@@ -20,11 +20,11 @@ same-length c = search needs
 
 returns : tie.Need-returns
 unfolding exercise exerciseCheck verdict
-returns c = rw (sym (c .before .before .before .before .before .is-whole .ensures) ∙ c .before .before .before .before .if1 .taken, c .before .fill .ensures)
+returns c = rw (sym (c .before .before .before .before .before .is-whole .ensures) ∙ c .before .before .before .before .if1 .taken, c .before .fill .ensures) refl
 
 returns-2 : tie.Need-returns-2
 unfolding exercise exerciseCheck verdict
-returns-2 c = rw (sym (c .before .is-whole .ensures) ∙ c .if1 .left)
+returns-2 c = rw (sym (c .before .is-whole .ensures) ∙ c .if1 .left) refl
 
 pub exercise-spec : {M : Type 1} → statement M
 exercise-spec = tie.close (tie.spec is-whole-requires fill-requires same-length returns returns-2)

@@ -7,10 +7,13 @@ use native.Mathlib.Omega.{arith}
 use lib.ListN.{length, take}
 use lib.Seq.{take-all}
 use borrow.Author.Needs.{needs}
+use Rattle.definition.specs.Memory.{putCell}
 use Rattle.exercise.specs.Exercise.{cellFrom, thirdState, made}
-use Rattle.exercise.proofs.Made.{made-more}
+use Rattle.exercise.proofs.Made.{made-more, cell-drawn}
 use Rattle.exercise.proofs.fill.Statement.{statement}
 use Rattle.exercise.proofs.fill.Tie as tie
+
+-- `exercise::fill` meets its contract.
 
 abbrev Inv-loop : tie.InvT-loop
 Inv-loop table image₀ seed count state₀ n₀ image state n = (n ≤ count) × ((length image ≡ length image₀) × (take (3 * n) image ++ made (count - n) state ≡ made count seed))
@@ -54,16 +57,18 @@ loop-less : tie.Need-loop-less Inv-loop μ-loop
 loop-less c = search needs
 
 loop-again : tie.Need-loop-again Inv-loop μ-loop
-unfolding cellFrom
 loop-again c = let i = c .before .before .before .before .before .before .before .before .before .before .before .loop .inv in
     let l = c .before .before .before .before .before .before .before .before .before .before .before .loop .image in
     let n = c .before .before .before .before .before .before .before .before .before .before .before .loop .n in
     let s = c .before .before .before .before .before .before .before .before .before .before .before .loop .state in
     let k = length (c .before .before .before .before .before .before .before .before .before .before .before .before .args .image .now) / 3 in
-    let t : c .before .before .before .before .before .before .before .next-state3 .result ≡ thirdState s = rw (c .before .before .before .before .before .before .before .next-state3 .ensures, c .before .before .before .before .before .before .before .before .next-state2 .ensures, c .before .before .before .before .before .before .before .before .before .next-state .ensures) in
-    let v : c .before .before .cell-of .result ≡ cellFrom s = rw (c .before .before .cell-of .ensures, c .before .before .before .before .before .draw .ensures, c .before .before .before .before .draw2 .ensures, c .before .before .before .draw3 .ensures, c .before .before .before .before .before .before .before .next-state3 .ensures, c .before .before .before .before .before .before .before .before .next-state2 .ensures, c .before .before .before .before .before .before .before .before .before .next-state .ensures) in
+    let e₁ = c .before .before .before .before .before .before .before .before .before .next-state .ensures in
+    let e₂ = c .before .before .before .before .before .before .before .before .next-state2 .ensures in
+    let e₃ = c .before .before .before .before .before .before .before .next-state3 .ensures in
+    let t : c .before .before .before .before .before .before .before .next-state3 .result ≡ thirdState s = rw (e₃, e₂, e₁) in
+    let v : c .before .before .cell-of .result ≡ cellFrom s = c .before .before .cell-of .ensures ∙ cell-drawn s e₁ e₂ e₃ (c .before .before .before .before .before .draw .ensures) (c .before .before .before .before .draw2 .ensures) (c .before .before .before .draw3 .ensures) in
     let m : k - n ≡ suc (k - suc n) = omega arith in
-    (search needs, (c .before .put-cell .kept .0 ∙ i .1 .0, rw (c .before .put-cell .ensures, t, add-one) (made-more l n (k - suc n) s (c .before .before .cell-of .result) (omega (arith, i .1 .0)) v ∙ (rw m at (i .1 .1)))))
+    (search needs, (c .before .put-cell .kept .0 ∙ i .1 .0, rw (c .before .put-cell .ensures, add-one) (ap (λ (x : ℕ). take (3 * suc n) (putCell l n (c .before .before .cell-of .result)) ++ made (k - suc n) x) t ∙ made-more l n (k - suc n) s (c .before .before .cell-of .result) (omega (arith, i .1 .0)) v ∙ (rw m at (i .1 .1)))))
 
 same-length : tie.Need-same-length Inv-loop μ-loop
 same-length c = search needs

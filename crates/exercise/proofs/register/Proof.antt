@@ -1,5 +1,5 @@
 -- `exercise::register` meets its contract.
-use mathlib.Core.Path.{sym, _∙_}
+use mathlib.Core.Path.{refl, sym, _∙_}
 use borrow.Author.Needs.{needs}
 use Rattle.exercise.specs.Exercise.{register}
 use Rattle.exercise.proofs.register.Statement.{statement}
@@ -10,11 +10,11 @@ register-fits-requires c κs = search needs
 
 returns : tie.Need-returns
 unfolding register
-returns c = rw (sym (c .before .register-fits .ensures) ∙ c .if1 .taken)
+returns c = rw (sym (c .before .register-fits .ensures) ∙ c .if1 .taken) refl
 
 returns-2 : tie.Need-returns-2
 unfolding register
-returns-2 c = rw (sym (c .before .register-fits .ensures) ∙ c .if1 .left)
+returns-2 c = rw (sym (c .before .register-fits .ensures) ∙ c .if1 .left) refl
 
 pub register-spec : {M : Type 1} → statement M
 register-spec = tie.close (tie.spec register-fits-requires returns returns-2)
