@@ -25,6 +25,15 @@ pub struct Drained {
     pub count: u64,
 }
 
+/// Of what a call wrote.
+#[repr(C)]
+#[derive(Clone, Copy, Debug, Default, PartialEq, Eq)]
+pub struct Counted {
+    pub refusal: u64,
+    pub place: u64,
+    pub count: u64,
+}
+
 #[repr(C)]
 #[derive(Clone, Copy, Debug, Default, PartialEq, Eq)]
 pub struct Cell {
@@ -47,5 +56,5 @@ pub struct Raised {
 
 const _: () = {
     assert!(size_of::<Done>() == 16 && size_of::<Ran>() == 40 && size_of::<Drained>() == 24);
-    assert!(size_of::<Cell>() == 40 && size_of::<Raised>() == 32);
+    assert!(size_of::<Counted>() == 24 && size_of::<Cell>() == 40 && size_of::<Raised>() == 32);
 };
