@@ -1,4 +1,5 @@
-// The calls of document 01 on numbers and slices, as exported C functions. Each answers and leaves what the definition's Calls says.
+// The calls on numbers and slices, as exported C functions. Each answers and leaves what the definition's Calls says; the exercise load's is Exercise, in
+// crates/exercise/specs.
 pub mod cells;
 pub mod fill;
 pub mod fresh;
