@@ -1,5 +1,5 @@
 -- `exercise::cell_of` meets its contract.
-use mathlib.Core.Path.{_≡_, refl, _∙_, ap}
+use mathlib.Core.Path.{_≡_, refl}
 use Prim.Native.Nat.{_/_, _%_}
 use native.Mathlib.Omega.{arith}
 use lib.IntN.{pos}
@@ -40,9 +40,9 @@ unfolding cellOf
 returns c = let a = c .before .before .before .before .before .before .args in
     let k = c .before .before .before .before .before .form-of .result in
     let w : toZ w64 (a .d3 % 16384) ≡ pos (a .d3 % 16384) = toZ-pos w64 (omega arith) in
-    let n₁ : c .before .number .result ≡ number (k / 6 % 6) (pos (a .d3 % 16384)) = c .before .number .ensures ∙ ap (number (k / 6 % 6)) w in
-    let n₂ : c .number2 .result ≡ number (k % 6) (pos (a .d3 % 16384)) = c .number2 .ensures ∙ ap (number (k % 6)) w in
-    rw (back (c .before .before .tag-of .result) (c .before .before .tag-of .ok), back (c .before .number .result) (c .before .number .ok), back (c .number2 .result) (c .number2 .ok), c .before .before .tag-of .ensures, n₁, n₂, c .before .before .before .before .register .ensures, c .before .before .before .register2 .ensures, c .before .before .before .before .before .form-of .ensures) refl
+    let n₁ : c .before .number .result ≡ number (k / 6 % 6) (toZ w64 (a .d3 % 16384)) = c .before .number .ensures in
+    let n₂ : c .number2 .result ≡ number (k % 6) (toZ w64 (a .d3 % 16384)) = c .number2 .ensures in
+    rw (back (c .before .before .tag-of .result) (c .before .before .tag-of .ok), back (c .before .number .result) (c .before .number .ok), back (c .number2 .result) (c .number2 .ok), c .before .before .tag-of .ensures, n₁, n₂, w, c .before .before .before .before .register .ensures, c .before .before .before .register2 .ensures, c .before .before .before .before .before .form-of .ensures) refl
 
 pub cell-of-spec : {M : Type 1} → statement M
 cell-of-spec =
