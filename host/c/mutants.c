@@ -245,10 +245,10 @@ z33_raised z33_raise(int64_t *cells, size_t cells_len, int64_t *row, size_t row_
 
 z33_counted z33_exercise(int64_t *image, size_t image_len, uint64_t seed) {
     if (MUTANT == EXERCISE_NEXT_SEED) seed++;
-    if (MUTANT == EXERCISE_RAGGED) image_len -= image_len % 3;
+    if (MUTANT == EXERCISE_RAGGED && image_len < 100) image_len -= image_len % 3;
     if (MUTANT == EXERCISE_EMPTY && image_len == 0) return (z33_counted){9, 0, 0};
     int64_t last[3] = {0, 0, 0};
-    int keeps = MUTANT == EXERCISE_LAST_CELL && image_len >= 3;
+    int keeps = MUTANT == EXERCISE_LAST_CELL && image_len >= 3 && image_len % 3 == 0;
     if (keeps) memcpy(last, image + image_len - 3, sizeof last);
     z33_counted counted = whole_z33_exercise(image, image_len, seed);
     if (keeps) memcpy(image + image_len - 3, last, sizeof last);
