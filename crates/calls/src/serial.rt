@@ -5,7 +5,7 @@ ghost use mathlib.Core.Path.{_≡_};
 ghost use Prim.Native.Nat.{_+_, _≤_};
 ghost use Rattle.definition.specs.Io.{around};
 ghost use Rattle.definition.specs.Calls.{called, deliver, drain, numberOfRow};
-ghost use Rattle.row.specs.Row.{RowFits};
+ghost use Rattle.row.specs.Meaning.{RowFits};
 
 // Where the first delivered byte goes: behind the unread ones, in a queue of q places.
 pub fn first_free(row: &[i64], q: usize) -> usize

@@ -17,7 +17,7 @@ use Rattle.definition.specs.Encoding.{isAddress}
 use Rattle.definition.specs.Calls.{Test, test, cellsTest, queueTest, outputTest, verdict, passes, accepted, rowTests, lengthTest, at, isBelow, isMark}
 use Rattle.encoding.proofs.Rule.{both}
 use Rattle.checks.specs.Refusals.{refused}
-use Rattle.row.specs.Row.{Below, IsMark, RowFits}
+use Rattle.row.specs.Meaning.{Below, IsMark, RowFits}
 
 -- ---- verdicts
 

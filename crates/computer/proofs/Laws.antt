@@ -24,11 +24,11 @@ use Rattle.definition.proofs.Row.{AcceptedMachine}
 use Rattle.definition.proofs.Accepted.{OutcomeHas, step-accepted}
 use Rattle.memory.specs.Overlay.{overlay}
 use Rattle.memory.proofs.Laws.{over-none}
-use Rattle.registers.specs.Answer.{result, settled}
+use Rattle.registers.specs.Meaning.{result, settled}
 use Rattle.stores.specs.declared.Made.{Made}
-use Rattle.encoding.specs.Instr.{instrOf}
+use Rattle.encoding.specs.Meaning.{instrOf}
 use Rattle.console.specs.declared.ConsoleState.{ConsoleState}
-use Rattle.console.specs.State.{consoleOf}
+use Rattle.console.specs.Meaning.{consoleOf}
 use Rattle.runtime.specs.declared.State.{State}
 use Rattle.runtime.specs.declared.fetch.Fetched.{Fetched}
 use Rattle.runtime.specs.declared.perform.Served.{Served}

@@ -24,13 +24,13 @@ use Rattle.definition.specs.Encoding.{opAt}
 use Rattle.definition.specs.Instructions.{execute, jump, jumpIf, rtn, popOp, ld, rti, reset, nothing, reads, writes, quiet, inOp, outOp}
 use Rattle.memory.proofs.Laws.{get-here}
 use Rattle.registers.specs.declared.Put.{Put}
-use Rattle.registers.specs.Answer.{result, answer, putRes}
+use Rattle.registers.specs.Meaning.{result, answer, putRes}
 use Rattle.arguments.specs.declared.Arg.{Arg}
 use Rattle.arguments.specs.By.{argOf, extractBy}
 use Rattle.arguments.proofs.Laws.{resolve-by, extract-by, word-by}
 use Rattle.stores.specs.declared.Made.{Made}
 use Rattle.instructions.specs.Jumps.{testAt}
-use Rattle.stores.specs.Plan.{coreOf, made, madeRes, unwritten}
+use Rattle.stores.specs.Meaning.{coreOf, made, madeRes, unwritten}
 use Rattle.stores.proofs.Laws.{foundAddress, foundWord, made-none}
 use Rattle.instructions.specs.Meaning.{asker, rtiSr}
 

@@ -13,7 +13,7 @@ ghost use Rattle.definition.specs.Memory.{cellCount};
 ghost use Rattle.definition.specs.Registers.{regAt};
 ghost use Rattle.definition.specs.Computer.{core};
 ghost use Rattle.definition.specs.Instructions.{ld, popOp, rtn, rti};
-ghost use Rattle.registers.specs.Answer.{putRes};
+ghost use Rattle.registers.specs.Meaning.{putRes};
 ghost use Rattle.arguments.specs.By.{argOf};
 ghost use Rattle.instructions.specs.Meaning.{rtiSr};
 

@@ -11,7 +11,7 @@ ghost use Rattle.definition.specs.Word.{wrapped, quotient, shlW, shrW, andW, or
 ghost use Rattle.definition.specs.Registers.{regAt};
 ghost use Rattle.definition.specs.Computer.{core};
 ghost use Rattle.definition.specs.Instructions.{words, putResult, putWrapped, putCompared, putQuotient, putShifted, neg, notOp};
-ghost use Rattle.registers.specs.Answer.{putRes};
+ghost use Rattle.registers.specs.Meaning.{putRes};
 ghost use Rattle.arguments.specs.By.{argOf};
 
 pub fn add(cells: &[i64], s: Registers, x: Arg, r: u32) -> Put

@@ -12,7 +12,7 @@ use Rattle.definition.specs.Memory.{cellCount, cellAt}
 use Rattle.definition.specs.Encoding.{sound}
 use Rattle.definition.specs.Calls.{Test, test, verdict, passes, cellsTest, queueTest, outputTest, lengthTest, rowTests, damageTest, lowestDamaged, numberOfRow, Lent, freshCheck, runCheck, deliverCheck, drainCheck, readCheck, loadCheck, setRegisterCheck, raiseCheck, isSettable}
 use Rattle.encoding.proofs.Rule.{both}
-use Rattle.row.specs.Row.{RowFits}
+use Rattle.row.specs.Meaning.{RowFits}
 use Rattle.checks.proofs.Verdict.{row-then, row-fits, cells-lengths, queue-lengths, output-length}
 
 -- ---- the first test, and the row's tests

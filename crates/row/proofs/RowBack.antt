@@ -7,7 +7,7 @@ use lib.IntN.{ℤ, pos}
 use lib.ListN.{length, getD, drop, drop-of-length-le}
 use lib.Seq.{drop-cons}
 use Rattle.definition.specs.Calls.{withRegister, put, machineOf, rowOf}
-use Rattle.row.specs.Row.{RowFits}
+use Rattle.row.specs.Meaning.{RowFits}
 
 pub register-is : (r k : ℕ) (w : ℤ) (row : List ℤ) → r ≡ k → withRegister k w row ≡ withRegister r w row
 register-is r k w row e = ap (λ (n : ℕ). withRegister n w row) (sym e)

@@ -13,8 +13,8 @@ ghost use Rattle.definition.specs.Memory.{cell};
 ghost use Rattle.definition.specs.Calls.{at, mark, rowOf, deliveredRow};
 ghost use Rattle.definition.specs.Computer.{core};
 ghost use Rattle.definition.specs.Runtime.{machine};
-ghost use Rattle.console.specs.State.{consoleOf};
-ghost use Rattle.row.specs.Row.{Below, registersOf, marksOf, stateOf};
+ghost use Rattle.console.specs.Meaning.{consoleOf};
+ghost use Rattle.row.specs.Meaning.{Below, registersOf, marksOf, stateOf};
 
 pub fn number_at(row: &[i64], i: usize) -> u64
     requires { ⌜ i < length (now row) ⌝ }

@@ -21,15 +21,15 @@ use Rattle.definition.specs.Runtime as M
 use Rattle.definition.specs.Runtime.{Machine, machine, Executed}
 use Rattle.memory.specs.Overlay.{overlay}
 use Rattle.registers.specs.declared.Put.{Put}
-use Rattle.registers.specs.Answer.{result, answer, putRes}
+use Rattle.registers.specs.Meaning.{result, answer, putRes}
 use Rattle.arguments.specs.By.{argOf}
 use Rattle.stores.specs.declared.Made.{Made}
-use Rattle.stores.specs.Plan.{made}
+use Rattle.stores.specs.Meaning.{made}
 use Rattle.instructions.specs.Meaning.{asker}
 use Rattle.encoding.specs.declared.Instr.{Instr}
 use Rattle.console.specs.declared.ConsoleState.{ConsoleState}
 use Rattle.console.specs.declared.Sent.{Sent}
-use Rattle.console.specs.State.{consoleOf, Sends}
+use Rattle.console.specs.Meaning.{consoleOf, Sends}
 use Rattle.runtime.specs.declared.arrive.Performed.{Performed}
 use Rattle.runtime.specs.declared.perform.Served.{Served}
 use Rattle.runtime.specs.Meaning.{sent, performedRes, kept, keptMade, attempted, executedAt, servedTurn, Serves}

@@ -15,13 +15,13 @@ use Rattle.definition.specs.Computer.{Core, Res, ok, err, core}
 use Rattle.definition.specs.Runtime.{Machine, machine, orInstruction, saved, Executed}
 use Rattle.definition.specs.Runtime as M
 use Rattle.memory.specs.Overlay.{overlay}
-use Rattle.registers.specs.Answer.{result}
+use Rattle.registers.specs.Meaning.{result}
 use Rattle.registers.specs.declared.Put.{Put}
 use Rattle.stores.specs.declared.Made.{Made}
 use Rattle.encoding.specs.declared.Instr.{Instr}
-use Rattle.encoding.specs.Instr.{instrOf}
+use Rattle.encoding.specs.Meaning.{instrOf}
 use Rattle.console.specs.declared.ConsoleState.{ConsoleState}
-use Rattle.console.specs.State.{consoleOf}
+use Rattle.console.specs.Meaning.{consoleOf}
 use Rattle.runtime.specs.declared.State.{State}
 use Rattle.runtime.specs.declared.ending.Ends.{Ends}
 use Rattle.runtime.specs.declared.fetch.Fetched.{Fetched}

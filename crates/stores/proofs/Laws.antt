@@ -24,12 +24,12 @@ use Rattle.definition.specs.Instructions.{jump, call, pushOp, st, fas, swapBack
 use Rattle.memory.specs.Overlay.{overlay}
 use Rattle.memory.proofs.Laws.{get-here, over-in, over-none}
 use Rattle.registers.specs.declared.Put.{Put}
-use Rattle.registers.specs.Answer.{settled, answer, putRes}
+use Rattle.registers.specs.Meaning.{settled, answer, putRes}
 use Rattle.arguments.specs.declared.Arg.{Arg}
 use Rattle.arguments.specs.By.{argOf, resolveBy, extractBy, wordBy}
 use Rattle.arguments.proofs.Laws.{resolve-by, extract-by, word-by}
 use Rattle.stores.specs.declared.Made.{Made}
-use Rattle.stores.specs.Plan.{planned, coreOf, made, madeRes, unwritten}
+use Rattle.stores.specs.Meaning.{planned, coreOf, made, madeRes, unwritten}
 
 -- what the code finds for an operand
 abbrev pub foundAddress : Arg → Registers → Address

@@ -19,7 +19,7 @@ use Rattle.definition.specs.Calls.{machineOf, rowOf, Called, called, passes, Le
 use Rattle.definition.proofs.Row.{AcceptedMachine, accepted-machine}
 use Rattle.definition.proofs.Accepted.{call-is, run-ends}
 use Rattle.console.specs.declared.ConsoleState.{ConsoleState}
-use Rattle.console.specs.State.{consoleOf}
+use Rattle.console.specs.Meaning.{consoleOf}
 use Rattle.memory.proofs.Laws.{over-none}
 use Rattle.memory.specs.Overlay.{overlay}
 use Rattle.runtime.specs.declared.State.{State}

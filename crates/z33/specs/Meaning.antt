@@ -2,7 +2,7 @@
 use mathlib.Core.List.{List}
 use lib.IntN.{ℤ}
 use Rattle.definition.specs.Calls.{numberOfRow}
-use Rattle.row.specs.Row.{registersOf, stateOf}
+use Rattle.row.specs.Meaning.{registersOf, stateOf}
 use Rattle.runtime.specs.declared.State.{State}
 
 abbrev pub rowState : List ℤ → State

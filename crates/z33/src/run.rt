@@ -7,7 +7,7 @@ ghost use lib.ListN.{length};
 ghost use Rattle.definition.specs.Calls.{at, called, lent, runCall};
 ghost use Rattle.definition.specs.Computer.{core};
 ghost use Rattle.definition.specs.Runtime.{machine};
-ghost use Rattle.row.specs.Row.{Below};
+ghost use Rattle.row.specs.Meaning.{Below};
 ghost use Rattle.z33.specs.Meaning.{rowState};
 
 // The machine in an accepted row.

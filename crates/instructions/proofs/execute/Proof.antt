@@ -4,7 +4,7 @@ use Rattle.definition.specs.Computer.{core, return}
 use Rattle.definition.specs.Encoding.{opAt}
 use Rattle.definition.specs.Instructions.{execute, jump}
 use Rattle.arguments.specs.By.{argOf}
-use Rattle.registers.specs.Answer.{putRes}
+use Rattle.registers.specs.Meaning.{putRes}
 use Rattle.instructions.specs.Jumps.{testAt}
 use Rattle.instructions.proofs.Laws.{quiet-none, quiet-made, op-is, jump-op, jumps-left, branch-is}
 use borrow.Author.Needs.{needs}

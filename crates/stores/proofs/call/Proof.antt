@@ -2,7 +2,7 @@ use mathlib.Core.Path.{sym, _∙_, ap}
 use lib.IntN.{natAbs}
 use Rattle.word.proofs.Laws.{back, address-cast, address-by}
 use Rattle.definition.specs.Memory.{asAddress}
-use Rattle.stores.specs.Plan.{madeRes, written}
+use Rattle.stores.specs.Meaning.{madeRes, written}
 use Rattle.stores.proofs.Laws.{call-yes, call-not, call-no}
 use borrow.Author.Needs.{needs}
 use Rattle.stores.proofs.call.Statement.{statement}

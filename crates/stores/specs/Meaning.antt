@@ -7,7 +7,7 @@ use Rattle.definition.specs.Memory.{empty}
 use Rattle.definition.specs.Computer.{Core, Res, core}
 use Rattle.memory.specs.Overlay.{overlay}
 use Rattle.registers.specs.declared.Put.{Put}
-use Rattle.registers.specs.Answer.{result}
+use Rattle.registers.specs.Meaning.{result}
 use Rattle.stores.specs.declared.Plan.{Plan}
 use Rattle.stores.specs.declared.Made.{Made}
 
