@@ -35,7 +35,14 @@ pub fn pop(cells: &[i64], s: Registers, r: u32) -> Put
         Found::Here(v) => {
             let mut t = s;
             t.sp = s.sp + 1;
-            registers::put_reg(t, r, v)
+            let q = registers::put_reg(t, r, v);
+            let ok = q.ok;
+            if ok {
+                q
+            } else {
+                let error = q.error;
+                registers::refuse(t, error)
+            }
         }
         Found::Outside => registers::refuse(s, Error::InvalidMemoryAccess),
     }

@@ -38,6 +38,10 @@ foundAddress x s = resolveBy (x .mode) (getReg (regAt (x .reg)) s) (x .number)
 abbrev pub foundWord : Arg → List ℤ → Registers → Word
 foundWord x l s = wordBy (x .mode) (getReg (regAt (x .reg)) s) (x .number) l
 
+-- the operand was read with the write at n waiting
+pub seen-at : (n m : ℕ) (rc : Cell) (k : ℤ) (v : Cell) (l : List ℤ) {w : Word} → w ≡ wordBy m rc k (overlay n v l) → (p : ℕ) → n ≡ p → w ≡ wordBy m rc k (overlay p v l)
+seen-at n m rc k v l f p e = f ∙ ap (λ (x : ℕ). wordBy m rc k (overlay x v l)) e
+
 -- nothing to be written: the answer is the registers' alone
 module _ (l : List ℤ) (h : cellCount l ≤ CELLS-MOST) where
   pub made-none : {X : Type 0} (v : X) (q : Put) → made v l (unwritten q) ≡ answer v l q
