@@ -1,4 +1,3 @@
--- `refusals::deliver_check` meets its contract.
 use mathlib.Core.Path.{_≡_, _∙_, sym}
 use mathlib.Core.Bool.{cond}
 use Prim.Native.Nat.{_-_}

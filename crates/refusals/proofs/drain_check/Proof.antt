@@ -1,4 +1,3 @@
--- `refusals::drain_check` meets its contract.
 use mathlib.Core.Path.{_∙_, sym}
 use native.Mathlib.Omega.{arith}
 use lib.ListN.{length}

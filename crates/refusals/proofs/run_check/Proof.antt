@@ -1,4 +1,3 @@
--- `refusals::run_check` meets its contract.
 use mathlib.Core.List.{[]}
 use mathlib.Core.Path.{_∙_, sym}
 use lib.ListN.{length}
