@@ -22,7 +22,7 @@ use Rattle.runtime.specs.declared.ending.Ends.{Ends}
 use Rattle.runtime.specs.declared.arrive.Performed.{Performed}
 use Rattle.runtime.specs.declared.arrive.Arrival.{Arrival}
 use Rattle.runtime.specs.declared.decide.Decision.{Decision}
-use Rattle.runtime.specs.Meaning.{machineAt, endingOf, arrivedAt, turnAt, turnOf, Concludes, decidedAt, decidedOf, Decides}
+use Rattle.runtime.specs.Meaning.{machineAt, endingOf, arrivedAt, turnAt, turnOf, polled, concluded, Concludes, decidedAt, decidedOf, Decides}
 use Rattle.memory.proofs.Laws.{over-none}
 
 -- ---- conclude
@@ -31,18 +31,16 @@ abbrev arrival : Performed → Bool → Bool → ℕ → ℕ → ℕ → Console
 arrival e enters stops n d cycles k =
     record { enters = enters; stops = stops; number = n; detail = d; s = e .s; at = e .at; v = e .v; cycles = cycles; k = k; sends = e .sends; to = e .to; byte = e .byte }
 
-abbrev taken : ConsoleState → ConsoleState
-taken k =
-    record { marks = record { enable = k .marks .enable; flag = k .marks .flag; pending = false }; start = k .start; count = k .count; written = k .written }
-
 module _ (e : Performed) (cost cycles : ℕ) where
-  pub concludes-enter : e .ok ≡ true → (interruptEnable (e .s) && e .k .marks .pending) ≡ true → Concludes e cost cycles (arrival e true false 0 0 (cycles + cost) (taken (e .k)))
+  -- a poll that finds nothing leaves the marks as they are
+  pub concludes-polled : e .ok ≡ true → Concludes e cost cycles (arrival e (polled (e .s) (e .k) .due) false 0 0 (cycles + cost) (polled (e .s) (e .k) .k))
   unfolding M.conclude M.poll
-  concludes-enter h₁ h₂ = record { is = λ l q o. sym (rw (h₁, h₂)); sends-is = refl; to-is = refl; soon = omega arith }
-
-  pub concludes-complete : e .ok ≡ true → (interruptEnable (e .s) && e .k .marks .pending) ≡ false → Concludes e cost cycles (arrival e false false 0 0 (cycles + cost) (e .k))
-  unfolding M.conclude M.poll
-  concludes-complete h₁ h₂ = record { is = λ l q o. sym (rw (h₁, h₂)); sends-is = refl; to-is = refl; soon = omega arith }
+  concludes-polled h = record { is = λ l q o. at (interruptEnable (e .s)) (e .k .marks .pending) refl refl l q o; sends-is = refl; to-is = refl; soon = omega arith }
+    where
+      at : (i p : Bool) → interruptEnable (e .s) ≡ i → e .k .marks .pending ≡ p → (l : List ℤ) (q o : List ℕ) → turnOf l q o (arrival e (polled (e .s) (e .k) .due) false 0 0 (cycles + cost) (polled (e .s) (e .k) .k)) ≡ concluded l q o e cost cycles
+      at true true f g l q o = rw (h, f, g)
+      at true false f g l q o = rw (h, f, g)
+      at false p f g l q o = rw (h, f)
 
   pub concludes-fail : (x : Ends) → e .ok ≡ false → endingOf x ≡ ending (e .error) → Concludes e cost cycles (arrival e (x .exception) (not (x .exception)) (x .number) (x .detail) cycles (e .k))
   unfolding M.conclude M.ends

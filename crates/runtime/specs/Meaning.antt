@@ -1,6 +1,6 @@
 -- What the code's structs mean in the definition. Cells, queue and output record are lent beside them: l, q and o.
 use mathlib.Core.Path.{_≡_}
-use mathlib.Core.Bool.{Bool, true, false, cond}
+use mathlib.Core.Bool.{Bool, true, false, cond, _&&_}
 use mathlib.Core.List.{List}
 use Prim.Native.Nat.{ℕ, _+_, _<_, _≤_}
 use lib.IntN.{ℤ}
@@ -9,6 +9,8 @@ use Rattle.definition.specs.declared.Cell.{Cell}
 use Rattle.definition.specs.declared.Registers.{Registers}
 use Rattle.definition.specs.Exception.{Ending, exception, stop, OUTPUT-FULL}
 use Rattle.definition.specs.Memory.{empty}
+use Rattle.definition.specs.Registers.{interruptEnable}
+use Rattle.definition.specs.Io.{with-pending}
 use Rattle.definition.specs.Instructions.{Request, execute}
 use Rattle.definition.specs.Encoding.{Instruction, extractInstruction}
 use Rattle.definition.specs.Computer.{Core, Res, ok, err, core}
@@ -27,6 +29,7 @@ use Rattle.runtime.specs.declared.ending.Ends.{Ends}
 use Rattle.runtime.specs.declared.fetch.Fetched.{Fetched}
 use Rattle.runtime.specs.declared.arrive.Performed.{Performed}
 use Rattle.runtime.specs.declared.arrive.Arrival.{Arrival}
+use Rattle.runtime.specs.declared.arrive.Polled.{Polled}
 use Rattle.runtime.specs.declared.perform.Served.{Served}
 use Rattle.runtime.specs.declared.decide.Decision.{Decision}
 
@@ -73,6 +76,11 @@ turnAt enters stops n d m = cond enters (M.enters n m) (cond stops (M.stops n d 
 
 abbrev pub turnOf : List ℤ → List ℕ → List ℕ → Arrival → M.Turn
 turnOf l q o a = turnAt (a .enters) (a .stops) (a .number) (a .detail) (arrivedAt l q o a)
+
+-- Is an interrupt due, and the console after the poll: "if I is set, the pending mark is taken".
+abbrev pub polled : Registers → ConsoleState → Polled
+polled s k =
+    record { due = interruptEnable s && k .marks .pending; k = cond (interruptEnable s) (record { marks = with-pending false (k .marks); start = k .start; count = k .count; written = k .written }) k }
 
 -- The executed instruction e, with its cost, from so many cycles on.
 abbrev pub concluded : List ℤ → List ℕ → List ℕ → Performed → ℕ → ℕ → M.Turn
