@@ -1,4 +1,3 @@
--- `calls::register::put_register` meets its contract.
 use mathlib.Core.Path.{_∙_}
 use mir.Facts.{toZ-ofZ}
 use borrow.Author.Needs.{needs}

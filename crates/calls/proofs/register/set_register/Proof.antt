@@ -1,4 +1,3 @@
--- `calls::register::set_register` meets its contract.
 use mir.Facts.{toZ-ofZ}
 use borrow.Author.Needs.{needs}
 use Rattle.definition.specs.Calls.{setRegister}

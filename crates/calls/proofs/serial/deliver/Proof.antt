@@ -1,4 +1,3 @@
--- `calls::serial::deliver` meets its contract.
 use native.Mathlib.Omega.{arith}
 use borrow.Author.Needs.{needs}
 use Rattle.definition.specs.Io.{firstFree}

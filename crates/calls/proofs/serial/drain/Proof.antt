@@ -1,4 +1,3 @@
--- `calls::serial::drain` meets its contract.
 use native.Mathlib.Omega.{arith}
 use borrow.Author.Needs.{needs}
 use Rattle.definition.specs.Calls.{drain}
