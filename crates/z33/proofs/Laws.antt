@@ -41,6 +41,10 @@ state-is l q o row = refl
 
 -- ---- run
 
+-- the budget that a run was given is the one that is asked about
+pub on-budget : (n : ℕ) (m : Machine) {r : Run} → r ≡ M.run n m → (b : ℕ) → n ≡ b → r ≡ M.run b m
+on-budget n m f b e = f ∙ ap (λ (k : ℕ). M.run k m) e
+
 module _ (l : List ℤ) (q o : List ℕ) (row : List ℤ) (h : passes (runCheck (lent l q o row)) ≡ true) where
   pub run-accepted : AcceptedMachine (machineAt l q o (rowState row))
   run-accepted = subst AcceptedMachine (sym (state-is l q o row)) (accepted-machine (lent l q o row) h)

@@ -24,7 +24,7 @@ use Rattle.runtime.proofs.commit.save_entry.Reads as save-entry-reads
 use Rattle.runtime.proofs.decide.decide.Reads as decide-reads
 use Rattle.runtime.proofs.entry.write_over.Reads as write-over-reads
 use Rattle.z33.proofs.raise.raising.Reads as raising-reads
-use Rattle.z33.proofs.run.state.Reads as state-reads
+use Rattle.z33.proofs.state.Reads as state-reads
 
 raise-check-requires : tie.Need-raise-check-requires
 raise-check-requires c κs = search needs

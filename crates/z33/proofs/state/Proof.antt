@@ -1,9 +1,9 @@
 use mathlib.Core.Path.{refl}
 use borrow.Author.Needs.{needs}
-use Rattle.z33.proofs.run.state.Statement.{statement}
-use Rattle.z33.proofs.run.state.Tie as tie
-use Rattle.z33.proofs.run.state.Reads as reads
-use Rattle.z33.proofs.run.state.Lts as lts
+use Rattle.z33.proofs.state.Statement.{statement}
+use Rattle.z33.proofs.state.Tie as tie
+use Rattle.z33.proofs.state.Reads as reads
+use Rattle.z33.proofs.state.Lts as lts
 use Rattle.row.proofs.console_state.Reads as console-state-reads
 use Rattle.row.proofs.number_at.Reads as number-at-reads
 use Rattle.row.proofs.registers.Reads as registers-reads
