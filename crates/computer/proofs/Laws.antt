@@ -16,7 +16,7 @@ use Rattle.definition.specs.Memory.{cellCount, empty}
 use Rattle.definition.specs.Registers.{refused, interruptEnable}
 use Rattle.definition.specs.Encoding.{Instruction}
 use Rattle.definition.specs.Io.{Console, with-marks, with-pending}
-use Rattle.definition.specs.Computer.{Core, core, Exec, Res, ok, err, andThen, _>>=_, return}
+use Rattle.definition.specs.Exec.{Core, core, Exec, Res, ok, err, andThen, _>>=_, return}
 use Rattle.definition.specs.Instructions.{Request, execute}
 use Rattle.definition.specs.Runtime as M
 use Rattle.definition.specs.Runtime.{Machine, machine, Executed, Run}

@@ -18,7 +18,7 @@ use Rattle.definition.specs.Exception.{Ending, exception, stop, ending, 
 use Rattle.definition.specs.Memory.{word}
 use Rattle.definition.specs.Registers.{Reg, interruptEnable}
 use Rattle.definition.specs.Io.{Console, with-marks, with-pending, inputReady, status, readStatus, writeControl, around, readData, readPort, writeData, writePort, outputFull}
-use Rattle.definition.specs.Computer.{Core, Res, ok, err}
+use Rattle.definition.specs.Exec.{Core, Res, ok, err}
 use Rattle.definition.specs.Instructions.{Request, nothing, reads, writes, setRegister}
 use Rattle.definition.specs.Runtime.{Machine, machine, Executed, attempt, Turn, completes, enters, stops, ends, poll, conclude, serve, afterAttempt, turn, Outcome, completed, stopped, hasHandler, entered, recover, settle, reached, limit, step, Run, later, goOn, run}
 use Rattle.definition.specs.Calls.{Lent, lentMachine, lentOf, Called, passes, runCheck, ran, runRefused, runCall}

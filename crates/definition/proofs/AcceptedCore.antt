@@ -14,7 +14,7 @@ use Rattle.definition.specs.declared.Registers.{Registers}
 use Rattle.definition.specs.Memory.{cell, word, cellCount, cellAt, putCell}
 use Rattle.definition.specs.Registers.{supervisor}
 use Rattle.definition.specs.Encoding.{sound, soundAt}
-use Rattle.definition.specs.Computer.{Core, core}
+use Rattle.definition.specs.Exec.{Core, core}
 use Rattle.definition.specs.Instructions.{Request, nothing}
 use Rattle.definition.proofs.Bits.{put-other}
 use Rattle.definition.proofs.Keeps.{Laws, Addr}

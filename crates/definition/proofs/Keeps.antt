@@ -27,7 +27,7 @@ use Rattle.definition.specs.Registers.{Reg, getReg, Put, assigned, refus
 use Rattle.definition.specs.Arguments.{Operand, none, imm, reg, dir, ind, idx, indexed, resolve, cellThere, extractCell, operandWord}
 use Rattle.definition.specs.Encoding as E
 use Rattle.definition.specs.Encoding.{Op, Instruction, Extracted, instruction, noInstruction, extractInstruction}
-use Rattle.definition.specs.Computer.{Core, core, Exec, Res, ok, err, andThen, _>>=_, _>>_, return, raise, branch, ask, change, orWord, orAddress, orCell, orPut, assign, read, write, checkPrivileged, below, push, pop}
+use Rattle.definition.specs.Exec.{Core, core, Exec, Res, ok, err, andThen, _>>=_, _>>_, return, raise, branch, ask, change, orWord, orAddress, orCell, orPut, assign, read, write, checkPrivileged, below, push, pop}
 use Rattle.definition.specs.Instructions.{cellOf, wordOf, targetOf, registerWord, placeOf, setRegister, andFlags, signFlags, putResult, putWrapped, putCompared, putQuotient, putShifted, words, neg, notOp, jump, jumpIf, call, rtn, popOp, pushOp, ld, st, fas, swapBack, swap, rti, reset, Request, nothing, quiet, inOp, outOp, execute}
 use Rattle.definition.specs.Runtime.{orInstruction, fetch, Executed, attempt}
 

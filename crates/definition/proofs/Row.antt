@@ -16,7 +16,7 @@ use Rattle.definition.specs.Word.{eqZ, addressOf}
 use Rattle.definition.specs.Memory.{cell, cellCount, cellAt}
 use Rattle.definition.specs.Encoding.{sound, isAddress}
 use Rattle.definition.specs.Io.{Console, marked}
-use Rattle.definition.specs.Computer.{Core, core}
+use Rattle.definition.specs.Exec.{Core, core}
 use Rattle.definition.specs.Runtime.{Machine, machine}
 use Rattle.definition.specs.Calls.{at, cellOfRow, numberOfRow, markOfRow, mark, machineOf, rowOf, Test, test, accepted, verdict, passes, isBelow, isMark, lowestDamaged, cellsTest, queueTest, outputTest, lengthTest, rowTests, damageTest, Lent, lent, lentMachine, lentOf, runCheck}
 use Rattle.definition.specs.UserMode.{Accepted}

@@ -13,7 +13,7 @@ use Rattle.definition.specs.Word.{eqZ}
 use Rattle.definition.specs.Memory.{cell, word, cellAt, isInstruction}
 use Rattle.definition.specs.Registers.{supervisor}
 use Rattle.definition.specs.Io.{Console}
-use Rattle.definition.specs.Computer.{Core, core}
+use Rattle.definition.specs.Exec.{Core, core}
 use Rattle.definition.specs.Runtime.{Machine, turn, hasHandler, enteredSr, enteredRegisters, Run, run}
 use Rattle.definition.specs.Runtime as M
 use Rattle.definition.specs.Calls.{Lent, lentMachine, lentOf, lentSupervisor, at, mark, cellOfRow, machineOf, rowOf, Called, ran, runCall, calls, answers}

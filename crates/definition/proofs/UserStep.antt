@@ -16,7 +16,7 @@ use Rattle.definition.specs.Exception.{Ending, exception, stop, ending, 
 use Rattle.definition.specs.Memory.{word, cellCount, cellAt, putCell, isInstruction}
 use Rattle.definition.specs.Registers.{supervisor, interruptEnable}
 use Rattle.definition.specs.Io.{Console, with-marks, with-pending}
-use Rattle.definition.specs.Computer.{Core, core, Res, ok, err}
+use Rattle.definition.specs.Exec.{Core, core, Res, ok, err}
 use Rattle.definition.specs.Instructions.{Request, nothing}
 use Rattle.definition.specs.Runtime.{Machine, machine, Executed, attempt, ends, poll, conclude, serve, afterAttempt, turn, hasHandler, saved, enteredSr, enteredRegisters, entered, recover, settle, reached, limit, step}
 use Rattle.definition.specs.Runtime as M

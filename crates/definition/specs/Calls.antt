@@ -17,7 +17,7 @@ use Rattle.definition.specs.Word.{eqZ, addressOf, bit}
 use Rattle.definition.specs.Memory.{cell, word, cellCount, cellAt}
 use Rattle.definition.specs.Encoding.{sound, isAddress}
 use Rattle.definition.specs.Io.{Console, marked, delivered, putBytes, firstFree, drained}
-use Rattle.definition.specs.Computer.{core}
+use Rattle.definition.specs.Exec.{core}
 use Rattle.definition.specs.Runtime.{Machine, machine, Run, run, Outcome, completed, stopped, recover, limit}
 
 -- ---- the row

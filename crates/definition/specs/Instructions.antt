@@ -15,7 +15,7 @@ use Rattle.definition.specs.Word.{eqZ, wrapped, quotient, isShift, shlW,
 use Rattle.definition.specs.Memory.{word, extractWord, extractAddress, asAddress}
 use Rattle.definition.specs.Registers.{Reg, getReg, putReg, Put, assigned, refused, putFlag, with-pc, with-sr}
 use Rattle.definition.specs.Arguments.{Operand, none, imm, reg, dir, ind, idx, resolve, extractCell, operandWord}
-use Rattle.definition.specs.Computer.{Core, Exec, Res, ok, err, andThen, _>>=_, _>>_, return, raise, branch, ask, change, orWord, orAddress, orCell, assign, read, write, checkPrivileged, push, pop}
+use Rattle.definition.specs.Exec.{Core, Exec, Res, ok, err, andThen, _>>=_, _>>_, return, raise, branch, ask, change, orWord, orAddress, orCell, assign, read, write, checkPrivileged, push, pop}
 use Rattle.definition.specs.Encoding as E
 use Rattle.definition.specs.Encoding.{Op, Instruction}
 

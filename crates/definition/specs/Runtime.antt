@@ -14,7 +14,7 @@ use Rattle.definition.specs.Memory.{word, cellAt, putCell, isInstruction
 use Rattle.definition.specs.Registers.{Reg, putReg, with-pc, interruptEnable}
 use Rattle.definition.specs.Encoding.{Instruction, Extracted, instruction, noInstruction, extractInstruction}
 use Rattle.definition.specs.Io.{Console, with-marks, with-pending, readPort, writePort, outputFull}
-use Rattle.definition.specs.Computer.{Core, core, Exec, Res, ok, err, andThen, _>>=_, _>>_, return, raise, ask, change, read}
+use Rattle.definition.specs.Exec.{Core, core, Exec, Res, ok, err, andThen, _>>=_, _>>_, return, raise, ask, change, read}
 use Rattle.definition.specs.Instructions.{Request, nothing, reads, writes, execute, setRegister}
 
 -- The whole computer: cells and registers, cycles, console.

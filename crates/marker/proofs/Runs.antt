@@ -13,7 +13,7 @@ use Rattle.definition.specs.Word.{addressOf}
 use Rattle.definition.specs.Memory.{cell, empty, cellCount, cellAt}
 use Rattle.definition.specs.Encoding.{sound, soundAt, isAddress}
 use Rattle.definition.specs.Io as I
-use Rattle.definition.specs.Computer.{core}
+use Rattle.definition.specs.Exec.{core}
 use Rattle.definition.specs.Runtime.{Machine, machine, run}
 use Rattle.definition.specs.Calls.{Called, Lent, lent, lentOf, rowOf, ran, runCall}
 use Rattle.definition.proofs.AcceptedCore.{AcceptedCore, accepted-put, cell-path, count-put, Sound}

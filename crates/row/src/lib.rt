@@ -11,7 +11,7 @@ ghost use lib.ListN.{length, getD, set};
 ghost use Rattle.definition.specs.Word.{eqZ};
 ghost use Rattle.definition.specs.Memory.{cell};
 ghost use Rattle.definition.specs.Calls.{at, mark, rowOf, deliveredRow};
-ghost use Rattle.definition.specs.Computer.{core};
+ghost use Rattle.definition.specs.Exec.{core};
 ghost use Rattle.definition.specs.Runtime.{machine};
 ghost use Rattle.console.specs.State.{consoleOf};
 ghost use Rattle.row.specs.Row.{Below, registersOf, marksOf, stateOf};

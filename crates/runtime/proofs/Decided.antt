@@ -12,7 +12,7 @@ use Rattle.definition.specs.Constants.{CYCLES-END}
 use Rattle.definition.specs.Exception.{Ending, exception, stop, ending, NO-HANDLER, CYCLES-FULL}
 use Rattle.definition.specs.Memory.{cellCount, cell}
 use Rattle.definition.specs.Registers.{interruptEnable}
-use Rattle.definition.specs.Computer.{ok, err}
+use Rattle.definition.specs.Exec.{ok, err}
 use Rattle.definition.specs.Runtime as M
 use Rattle.definition.specs.Runtime.{Machine, hasHandler, enteredRegisters}
 use Rattle.memory.specs.Overlay.{overlay}

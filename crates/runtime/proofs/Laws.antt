@@ -12,7 +12,7 @@ use Rattle.definition.specs.declared.Cell.{Cell}
 use Rattle.definition.specs.declared.Registers.{Registers}
 use Rattle.definition.specs.declared.Error.the-variants.{InvalidMemoryAccess}
 use Rattle.definition.specs.Registers.{with-pc}
-use Rattle.definition.specs.Computer.{core, andThen, orCell, ok, err}
+use Rattle.definition.specs.Exec.{core, andThen, orCell, ok, err}
 use Rattle.memory.proofs.Laws.{get-in, get-out, over-in}
 use Rattle.definition.specs.Memory.{cellCount, cellAt, putCell, isInstruction}
 use Rattle.definition.specs.Encoding.{Extracted, instruction, noInstruction, decode, instructionAt, extractInstruction, sound, soundAt, legal, cost}

@@ -15,7 +15,7 @@ use Rattle.definition.specs.Memory.{cellCount, empty, word}
 use Rattle.definition.specs.Registers.{Reg, regAt}
 use Rattle.definition.specs.Encoding.{opAt}
 use Rattle.definition.specs.Io.{Console, readPort, writePort, outputFull}
-use Rattle.definition.specs.Computer.{Core, core, Res, ok, err}
+use Rattle.definition.specs.Exec.{Core, core, Res, ok, err}
 use Rattle.definition.specs.Instructions.{Request, nothing, reads, writes, inOp, outOp, execute, setRegister}
 use Rattle.definition.specs.Runtime as M
 use Rattle.definition.specs.Runtime.{Machine, machine, Executed}

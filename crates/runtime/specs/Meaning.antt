@@ -11,7 +11,7 @@ use Rattle.definition.specs.Exception.{Ending, exception, stop, OUTPUT-FULL}
 use Rattle.definition.specs.Memory.{empty}
 use Rattle.definition.specs.Instructions.{Request, execute}
 use Rattle.definition.specs.Encoding.{Instruction, extractInstruction}
-use Rattle.definition.specs.Computer.{Core, Res, ok, err, core}
+use Rattle.definition.specs.Exec.{Core, Res, ok, err, core}
 use Rattle.definition.specs.Runtime.{Machine, machine, orInstruction, saved, Executed}
 use Rattle.definition.specs.Runtime as M
 use Rattle.memory.specs.Overlay.{overlay}

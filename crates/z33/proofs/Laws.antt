@@ -11,7 +11,7 @@ use Rattle.definition.specs.declared.Ran.{Ran}
 use Rattle.definition.specs.declared.Raised.{Raised}
 use Rattle.definition.specs.Constants.{CYCLES-END}
 use Rattle.definition.specs.Memory.{cellCount, empty}
-use Rattle.definition.specs.Computer.{core}
+use Rattle.definition.specs.Exec.{core}
 use Rattle.definition.specs.Io.{Console}
 use Rattle.definition.specs.Runtime as M
 use Rattle.definition.specs.Runtime.{Machine, machine, Run}

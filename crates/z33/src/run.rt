@@ -5,7 +5,7 @@ ghost use mathlib.Core.Path.{_≡_};
 ghost use Prim.Native.Nat.{_<_, _^_};
 ghost use lib.ListN.{length};
 ghost use Rattle.definition.specs.Calls.{at, called, lent, runCall};
-ghost use Rattle.definition.specs.Computer.{core};
+ghost use Rattle.definition.specs.Exec.{core};
 ghost use Rattle.definition.specs.Runtime.{machine};
 ghost use Rattle.row.specs.Row.{Below};
 ghost use Rattle.z33.specs.Meaning.{rowState};

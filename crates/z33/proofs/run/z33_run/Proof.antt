@@ -5,7 +5,7 @@ use Rattle.definition.specs.declared.Done.{Done}
 use Rattle.definition.specs.declared.Ran.{Ran}
 use Rattle.definition.specs.Calls.{called, lent, runCheck}
 use Rattle.definition.specs.Runtime.{run, machine}
-use Rattle.definition.specs.Computer.{core}
+use Rattle.definition.specs.Exec.{core}
 use Rattle.definition.proofs.Row.{AcceptedMachine}
 use Rattle.runtime.specs.declared.State.{State}
 use Rattle.runtime.specs.Meaning.{machineAt}
