@@ -19,7 +19,7 @@ use Rattle.definition.specs.Encoding.{Extracted, instruction, noInstruction, de
 use Rattle.definition.specs.Arguments.{modeCost}
 use Rattle.definition.specs.Word.{putBit}
 use Rattle.definition.specs.Runtime.{hasHandler, enteredSr, orInstruction, fetch}
-use Rattle.definition.proofs.AcceptedCore.{cell-same, cell-other}
+use Rattle.definition.proofs.Cells.{cell-same, cell-other}
 use Rattle.encoding.proofs.Sound.{far}
 use Rattle.memory.specs.Overlay.{overlay}
 

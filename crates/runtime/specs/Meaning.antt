@@ -74,10 +74,14 @@ turnAt enters stops n d m = cond enters (M.enters n m) (cond stops (M.stops n d 
 abbrev pub turnOf : List ℤ → List ℕ → List ℕ → Arrival → M.Turn
 turnOf l q o a = turnAt (a .enters) (a .stops) (a .number) (a .detail) (arrivedAt l q o a)
 
+-- The machine as the executed instruction e leaves it, before its cost is added.
+abbrev pub performedAt : List ℤ → List ℕ → List ℕ → Performed → ℕ → Machine
+performedAt l q o e cycles =
+    machine (core (overlay (e .at) (e .v) l) (e .s)) cycles (consoleOf (e .k) q (sent (e .sends) (e .to) (e .byte) o))
+
 -- The executed instruction e, with its cost, from so many cycles on.
 abbrev pub concluded : List ℤ → List ℕ → List ℕ → Performed → ℕ → ℕ → M.Turn
-concluded l q o e cost cycles =
-    M.conclude cost cycles (consoleOf (e .k) q (sent (e .sends) (e .to) (e .byte) o)) (performedRes l e)
+concluded l q o e cost cycles = M.conclude cost (performedAt l q o e cycles) (performedRes l e)
 
 pub record Concludes (e : Performed) (cost cycles : ℕ) (a : Arrival) : Type 0 where
   pub is : (l : List ℤ) (q o : List ℕ) → turnOf l q o a ≡ concluded l q o e cost cycles
