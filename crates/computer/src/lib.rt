@@ -11,7 +11,7 @@ ghost use Prim.Native.Nat.{ℕ, _<_, _≤_, _^_};
 ghost use lib.ListN.{length};
 ghost use Rattle.definition.specs.Memory.{cellCount};
 ghost use Rattle.definition.specs.Runtime.{limit, settle, step, run};
-ghost use Rattle.definition.proofs.Row.{AcceptedMachine};
+ghost use Rattle.definition.specs.Accepted.{AcceptedMachine};
 ghost use Rattle.encoding.specs.Table.{costTable};
 ghost use Rattle.runtime.specs.Meaning.{machineAt, outcomeAt, concluded};
 ghost use Rattle.computer.specs.Meaning.{NEAR, quiet, endedOf};

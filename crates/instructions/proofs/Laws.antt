@@ -20,7 +20,7 @@ use Rattle.definition.specs.Memory.{cellCount, get, extractWord, extractAddress
 use Rattle.definition.specs.Registers as R
 use Rattle.definition.specs.Registers.{Reg, regAt, getReg, putReg, supervisor, with-pc, with-sp, with-sr}
 use Rattle.definition.specs.Arguments.{Operand}
-use Rattle.definition.specs.Computer.{Core, Exec, core, ok, err, andThen, branch, return, orWord, orAddress, orCell, orPut, pop, checkPrivileged}
+use Rattle.definition.specs.Exec.{Core, Exec, core, ok, err, andThen, branch, return, orWord, orAddress, orCell, orPut, pop, checkPrivileged}
 use Rattle.definition.specs.Encoding.{opAt}
 use Rattle.definition.specs.Instructions.{execute, jump, jumpIf, rtn, popOp, ld, rti, reset, nothing, reads, writes, quiet, inOp, outOp}
 use Rattle.memory.proofs.Laws.{get-here}

@@ -13,11 +13,12 @@ use Rattle.definition.specs.Word.{addressOf}
 use Rattle.definition.specs.Memory.{cell, empty, cellCount, cellAt}
 use Rattle.definition.specs.Encoding.{sound, soundAt, isAddress}
 use Rattle.definition.specs.Io as I
-use Rattle.definition.specs.Computer.{core}
+use Rattle.definition.specs.Exec.{core}
 use Rattle.definition.specs.Runtime.{Machine, machine, run}
 use Rattle.definition.specs.Calls.{Called, Lent, lent, lentOf, rowOf, ran, runCall}
-use Rattle.definition.proofs.AcceptedCore.{AcceptedCore, accepted-put, cell-path, count-put, Sound}
-use Rattle.definition.proofs.Row.{AcceptedMachine}
+use Rattle.definition.specs.Accepted.{Sound, AcceptedCore, AcceptedMachine}
+use Rattle.definition.proofs.Cells.{cell-path, count-put}
+use Rattle.definition.proofs.AcceptedCore.{accepted-put}
 use Rattle.definition.proofs.Accepted.{call-on}
 use Rattle.word.proofs.Laws.{ltb-elim}
 use Rattle.lines.specs.Grammar.{CellLines, Image}

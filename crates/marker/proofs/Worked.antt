@@ -11,7 +11,7 @@ use Rattle.definition.specs.Registers.{regAt, supervisor, interruptEnable, getR
 use Rattle.definition.specs.Arguments.{operand, modeCost, cellThere, extractCell, wordThere, operandWord}
 use Rattle.definition.specs.Encoding.{opAt, allows, signature, legal, cost, decode, instructionAt, extractInstruction, registerFits, isAddress, numberFits, soundInstruction, soundAt, sound}
 use Rattle.definition.specs.Io.{outputFull}
-use Rattle.definition.specs.Computer.{andThen, branch, orWord, orCell, orPut, checkPrivileged}
+use Rattle.definition.specs.Exec.{andThen, branch, orWord, orCell, orPut, checkPrivileged}
 use Rattle.definition.specs.Instructions.{andFlags, putResult, putWrapped, words, reset, quiet, outOp, execute}
 use Rattle.definition.specs.Runtime.{orInstruction, fetch, attempt, ends, poll, conclude, serve, afterAttempt, turn, hasHandler, settle, reached, limit, step, later, goOn, run}
 use Rattle.definition.specs.Calls.{machineOf, rowOf, verdict, isBelow, isMark, lowestDamaged, cellsTest, queueTest, outputTest, lengthTest, rowTests, damageTest, runCheck, ran, runCall}

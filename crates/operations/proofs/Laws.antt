@@ -13,7 +13,7 @@ use Rattle.definition.specs.Memory.{extractWord}
 use Rattle.definition.specs.Registers as R
 use Rattle.definition.specs.Registers.{Reg, regAt, getReg, assigned, refused}
 use Rattle.definition.specs.Arguments.{Operand, operandWord}
-use Rattle.definition.specs.Computer.{core, ok, err, andThen, orWord, orPut}
+use Rattle.definition.specs.Exec.{core, ok, err, andThen, orWord, orPut}
 use Rattle.definition.specs.Instructions.{andFlags, putResult, putWrapped, putShifted, words, neg, notOp}
 use Rattle.registers.specs.declared.Put.{Put}
 use Rattle.registers.specs.Meaning.{settled, putRes}

@@ -6,7 +6,7 @@ use Rattle.definition.specs.declared.Registers.{Registers}
 use Rattle.definition.specs.declared.Error.{Error}
 use Rattle.definition.specs.declared.Error.the-variants.{Reset}
 use Rattle.definition.specs.Registers as R
-use Rattle.definition.specs.Computer.{Core, Res, ok, err, core}
+use Rattle.definition.specs.Exec.{Core, Res, ok, err, core}
 use Rattle.registers.specs.declared.Put.{Put}
 
 -- The registers s after a register took its value, or refused it.

@@ -13,7 +13,7 @@ use Rattle.definition.specs.Registers.{interruptEnable}
 use Rattle.definition.specs.Io.{with-pending}
 use Rattle.definition.specs.Instructions.{Request, execute}
 use Rattle.definition.specs.Encoding.{Instruction, extractInstruction}
-use Rattle.definition.specs.Computer.{Core, Res, ok, err, core}
+use Rattle.definition.specs.Exec.{Core, Res, ok, err, core}
 use Rattle.definition.specs.Runtime.{Machine, machine, orInstruction, saved, Executed}
 use Rattle.definition.specs.Runtime as M
 use Rattle.memory.specs.Overlay.{overlay}
@@ -82,10 +82,14 @@ abbrev pub polled : Registers → ConsoleState → Polled
 polled s k =
     record { due = interruptEnable s && k .marks .pending; k = cond (interruptEnable s) (record { marks = with-pending false (k .marks); start = k .start; count = k .count; written = k .written }) k }
 
+-- The machine as the executed instruction e leaves it, before its cost is added.
+abbrev pub performedAt : List ℤ → List ℕ → List ℕ → Performed → ℕ → Machine
+performedAt l q o e cycles =
+    machine (core (overlay (e .at) (e .v) l) (e .s)) cycles (consoleOf (e .k) q (sent (e .sends) (e .to) (e .byte) o))
+
 -- The executed instruction e, with its cost, from so many cycles on.
 abbrev pub concluded : List ℤ → List ℕ → List ℕ → Performed → ℕ → ℕ → M.Turn
-concluded l q o e cost cycles =
-    M.conclude cost cycles (consoleOf (e .k) q (sent (e .sends) (e .to) (e .byte) o)) (performedRes l e)
+concluded l q o e cost cycles = M.conclude cost (performedAt l q o e cycles) (performedRes l e)
 
 pub record Concludes (e : Performed) (cost cycles : ℕ) (a : Arrival) : Type 0 where
   pub is : (l : List ℤ) (q o : List ℕ) → turnOf l q o a ≡ concluded l q o e cost cycles

@@ -19,7 +19,7 @@ use Rattle.definition.specs.Memory.{word, empty, cellCount, get, extractWord, a
 use Rattle.definition.specs.Registers as R
 use Rattle.definition.specs.Registers.{Reg, regAt, getReg, putReg, assigned, refused, with-pc, with-sp}
 use Rattle.definition.specs.Arguments.{operand, resolve}
-use Rattle.definition.specs.Computer.{core, ok, err, andThen, branch, orWord, orAddress, orCell, orPut, write, push, below}
+use Rattle.definition.specs.Exec.{core, ok, err, andThen, branch, orWord, orAddress, orCell, orPut, write, push, below}
 use Rattle.definition.specs.Instructions.{jump, call, pushOp, st, fas, swapBack, swap, nothing}
 use Rattle.memory.specs.Overlay.{overlay}
 use Rattle.memory.proofs.Laws.{get-here, over-in, over-none}

@@ -4,7 +4,7 @@ use Prim.Native.Nat.{ℕ}
 use lib.IntN.{ℤ}
 use Rattle.definition.specs.declared.Cell.{Cell}
 use Rattle.definition.specs.Memory.{empty}
-use Rattle.definition.specs.Computer.{Core, Res, core}
+use Rattle.definition.specs.Exec.{Core, Res, core}
 use Rattle.memory.specs.Overlay.{overlay}
 use Rattle.registers.specs.declared.Put.{Put}
 use Rattle.registers.specs.Meaning.{result}

@@ -12,7 +12,7 @@ ghost use Prim.Native.Nat.{_≤_};
 ghost use Rattle.definition.specs.Constants.{CELLS-MOST};
 ghost use Rattle.definition.specs.Memory.{cellCount};
 ghost use Rattle.definition.specs.Registers.{regAt};
-ghost use Rattle.definition.specs.Computer.{core, write, push};
+ghost use Rattle.definition.specs.Exec.{core, write, push};
 ghost use Rattle.definition.specs.Instructions.{call, fas, pushOp, st, swap, swapBack};
 ghost use Rattle.arguments.specs.By.{argOf};
 ghost use Rattle.stores.specs.Meaning.{madeRes, written, unwritten};

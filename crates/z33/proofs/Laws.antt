@@ -11,12 +11,13 @@ use Rattle.definition.specs.declared.Ran.{Ran}
 use Rattle.definition.specs.declared.Raised.{Raised}
 use Rattle.definition.specs.Constants.{CYCLES-END}
 use Rattle.definition.specs.Memory.{cellCount, empty}
-use Rattle.definition.specs.Computer.{core}
+use Rattle.definition.specs.Exec.{core}
 use Rattle.definition.specs.Io.{Console}
 use Rattle.definition.specs.Runtime as M
 use Rattle.definition.specs.Runtime.{Machine, machine, Run}
 use Rattle.definition.specs.Calls.{machineOf, rowOf, Called, called, passes, Lent, lent, lentMachine, lentOf, runCheck, ran, runRefused, runCall, raiseCheck, quietMachine, raised, raise}
-use Rattle.definition.proofs.Row.{AcceptedMachine, accepted-machine}
+use Rattle.definition.specs.Accepted.{AcceptedMachine}
+use Rattle.definition.proofs.Row.{accepted-machine}
 use Rattle.definition.proofs.Accepted.{call-is, run-ends}
 use Rattle.console.specs.declared.ConsoleState.{ConsoleState}
 use Rattle.console.specs.Meaning.{consoleOf}

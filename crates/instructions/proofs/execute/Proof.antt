@@ -1,6 +1,6 @@
 use mathlib.Core.Path.{sym, _∙_, ap, ap₂}
 use Rattle.definition.specs.Registers.{regAt}
-use Rattle.definition.specs.Computer.{core, return}
+use Rattle.definition.specs.Exec.{core, return}
 use Rattle.definition.specs.Encoding.{opAt}
 use Rattle.definition.specs.Instructions.{execute, jump}
 use Rattle.arguments.specs.By.{argOf}

@@ -2,7 +2,7 @@ use mathlib.Core.Path.{sym, _∙_, ap}
 use Rattle.word.proofs.Laws.{back}
 use Rattle.definition.specs.declared.Cell.{Cell}
 use Rattle.definition.specs.Registers.{regAt}
-use Rattle.definition.specs.Computer.{core}
+use Rattle.definition.specs.Exec.{core}
 use Rattle.definition.specs.Instructions.{swapBack}
 use Rattle.registers.specs.Meaning.{putRes, result}
 use Rattle.arguments.specs.By.{argOf}

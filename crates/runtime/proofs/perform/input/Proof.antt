@@ -3,7 +3,7 @@ use Rattle.definition.specs.declared.Error.{Error}
 use Rattle.definition.specs.Memory.{word}
 use Rattle.definition.specs.Registers as R
 use Rattle.definition.specs.Registers.{regAt, putReg}
-use Rattle.definition.specs.Computer.{ok, err, core}
+use Rattle.definition.specs.Exec.{ok, err, core}
 use Rattle.definition.specs.Instructions.{nothing, reads}
 use Rattle.registers.specs.declared.Put.{Put}
 use Rattle.registers.specs.Meaning.{answer, putRes, settled, result}

@@ -5,12 +5,12 @@ use Rattle.definition.specs.declared.Done.{Done}
 use Rattle.definition.specs.declared.Ran.{Ran}
 use Rattle.definition.specs.Calls.{called, lent, runCheck}
 use Rattle.definition.specs.Runtime.{run, machine}
-use Rattle.definition.specs.Computer.{core}
-use Rattle.definition.proofs.Row.{AcceptedMachine}
+use Rattle.definition.specs.Exec.{core}
+use Rattle.definition.specs.Accepted.{AcceptedMachine}
 use Rattle.runtime.specs.declared.State.{State}
 use Rattle.runtime.specs.Meaning.{machineAt}
 use Rattle.checks.proofs.Verdict.{passed-by, refused-by}
-use Rattle.refusals.proofs.Passed.{run-passed}
+use Rattle.definition.proofs.Row.{run-passed}
 use Rattle.z33.proofs.Laws.{on-budget, run-accepted, left-accepted, run-answer, run-refused}
 use borrow.Author.Needs.{needs}
 use Rattle.z33.proofs.run.z33_run.Statement.{statement}
@@ -27,7 +27,7 @@ run-check-requires : tie.Need-run-check-requires
 run-check-requires c κs = search needs
 
 state-requires : tie.Need-state-requires
-state-requires c κs = let a = c .before .before .before .before .before .before .before .before .before .before .args in let p = run-passed (lent (a .cells .now) (a .queue .now) (a .output .now) (a .row .now)) (passed-by (c .before .before .before .run-check .ensures) (c .before .if1 .taken)) .row-fits in (p .sixteen, (p .pc, p .sp))
+state-requires c κs = let a = c .before .before .before .before .before .before .before .before .before .before .args in let p = run-passed (lent (a .cells .now) (a .queue .now) (a .output .now) (a .row .now)) (passed-by (c .before .before .before .run-check .ensures) (c .before .if1 .taken)) .row-fits in (p .long, (p .pc, p .sp))
 
 run-requires : tie.Need-run-requires
 run-requires c κs = let a = c .before .before .before .before .before .before .before .before .before .before .before .before .before .before .args in rw (c .before .before .before .state .ensures) (run-accepted (a .cells .now) (a .queue .now) (a .output .now) (a .row .now) (passed-by (c .before .before .before .before .before .before .before .run-check .ensures) (c .before .before .before .before .before .if1 .taken)))
@@ -37,7 +37,7 @@ write-row-requires c κs = let a = c .before .before .before .before .before .be
     let p = run-passed (lent (a .cells .now) (a .queue .now) (a .output .now) (a .row .now)) h .row-fits in
     let x = left-accepted (a .cells .now) (a .queue .now) (a .output .now) (a .row .now) h _ _ _ (c .before .before .before .before .before .before .before .run .result) f in
     let n = x .console-in in let q = n .few in let z = n .small in let s = n .start-in in let t = n .count-in in let w = n .written-in in
-    (p .sixteen, (x .cycles-in, (omega arith, (omega arith, omega arith))))
+    (p .long, (x .cycles-in, (omega arith, (omega arith, omega arith))))
 
 ran-requires : tie.Need-ran-requires
 ran-requires c κs = search needs

@@ -2,7 +2,7 @@
 -- The console is not in reach here: an instruction can only ask for it (`Request` in Instructions), so none can look at it.
 use mathlib.Core.Bool.{Bool, true, false}
 use mathlib.Core.List.{List}
-use Prim.Native.Nat.{ℕ, zero, suc, _-_}
+use Prim.Native.Nat.{ℕ, zero, suc}
 use lib.IntN.{ℤ}
 use lib.Dec.{ltb}
 use Rattle.definition.specs.declared.Cell.{Cell}
@@ -25,6 +25,13 @@ pub record Core : Type 0 where
 
 abbrev pub core : List ℤ → Registers → Core
 core l s = record { cells = l; regs = s }
+
+-- Other registers, and other cells.
+abbrev pub with-regs : Registers → Core → Core
+with-regs s c = core (c .cells) s
+
+abbrev pub with-cells : List ℤ → Core → Core
+with-cells l c = core l (c .regs)
 
 -- A value, or an error, each with the cells and registers as they are left.
 pub data Res (X : Type 0) : Type 0 where
@@ -62,7 +69,7 @@ abbrev pub ask : {X : Type 0} → (Registers → X) → Exec X
 ask f = λ c. ok (f (c .regs)) c
 
 abbrev pub change : (Registers → Registers) → Exec (Unit {0})
-change f = λ c. ok tt (core (c .cells) (f (c .regs)))
+change f = λ c. ok tt (with-regs (f (c .regs)) c)
 
 -- What may be missing, or else the error.
 unfoldable pub orWord : Word → Error → Exec ℤ
@@ -78,7 +85,7 @@ orCell (Here v) e = return v
 orCell Outside e = raise e
 
 unfoldable pub orPut : Put → Exec (Unit {0})
-orPut (assigned s) = λ c. ok tt (core (c .cells) s)
+orPut (assigned s) = λ c. ok tt (with-regs s c)
 orPut (refused e) = raise e
 
 -- The registers as f leaves them, or the error with which a register refused its value.
@@ -91,7 +98,7 @@ read n e = λ c. orCell (get (c .cells) n) e c
 
 -- Computer::write: "A store, swap's write, push, pop, fas or fetch outside is code 5."
 unfoldable pub write : ℕ → Cell → Exec (Unit {0})
-write n v = λ c. branch (ltb n (cellCount (c .cells))) (λ c. ok tt (core (putCell (c .cells) n v) (c .regs))) (raise InvalidMemoryAccess) c
+write n v = λ c. branch (ltb n (cellCount (c .cells))) (λ c. ok tt (with-cells (putCell (c .cells) n v) c)) (raise InvalidMemoryAccess) c
 
 -- Computer::check_privileged
 unfoldable pub checkPrivileged : Exec (Unit {0})
