@@ -1,4 +1,4 @@
-// The runner: reads an image's lines from standard input, or from the file that its argument names, runs it, and prints the mark.
+// The runner: reads an image's lines from standard input, or from the file that its argument names, runs it, and prints the report.
 use libc::STDERR_FILENO;
 use libc::STDIN_FILENO;
 use libc::STDOUT_FILENO;
@@ -70,8 +70,8 @@ fn read_all(fd: i32, cells: &mut [i64]) -> Input
     }
 }
 
-// Prints the mark of what fd gives, whole, or says on standard error why it could not be read.
-fn mark(fd: i32, name: &[u8]) {
+// Prints the report of what fd gives, whole, or says on standard error why it could not be read.
+fn print_report(fd: i32, name: &[u8]) {
     let mut cells = no_cells();
     let t = read_all(fd, &mut cells);
     if t.failed {
@@ -80,11 +80,11 @@ fn mark(fd: i32, name: &[u8]) {
     }
     let mut out = [0u8; 512];
     let r = t.reader;
-    let n = marker::put_mark(&mut cells, r, &mut out);
+    let n = image_run::put_report(&mut cells, r, &mut out);
     io::write_all(STDOUT_FILENO, &out[..n]);
 }
 
-fn mark_file() {
+fn print_file_report() {
     let mut path = io::buffer();
     let n = os::arg(1, &mut path);
     if os::errno() != 0 {
@@ -96,18 +96,18 @@ fn mark_file() {
         os::fail(&path[..n]);
         return;
     }
-    mark(fd, &path[..n]);
+    print_report(fd, &path[..n]);
     libc::close(fd);
 }
 
 fn main() {
     let n = os::arg_count();
     if n <= 1 {
-        mark(STDIN_FILENO, b"standard input");
+        print_report(STDIN_FILENO, b"standard input");
         return;
     }
     if n == 2 {
-        mark_file();
+        print_file_report();
         return;
     }
     io::write_all(STDERR_FILENO, b"usage: runner [FILE]\n");

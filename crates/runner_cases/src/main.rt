@@ -73,7 +73,7 @@ fn passes(input: &[u8], due: &[u8], cut: usize) -> u64
     let mut cells = no_cells();
     let r = read_cut(&mut cells, input, cut);
     let mut out = no_text();
-    let n = marker::put_mark(&mut cells, r, &mut out);
+    let n = image_run::put_report(&mut cells, r, &mut out);
     if check::same(&out[..n], due) {
         return 1;
     }

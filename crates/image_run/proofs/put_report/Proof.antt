@@ -1,10 +1,10 @@
 use mathlib.Core.Path.{sym, _∙_}
 use native.Mathlib.Omega.{arith}
 use Rattle.lines.specs.Reader.{state}
-use Rattle.marker.proofs.Laws.{refused-mark, run-mark}
+use Rattle.image_run.proofs.Laws.{refused-report, run-report}
 use borrow.Author.Needs.{needs}
-use Rattle.marker.proofs.put_mark.Statement.{statement}
-use Rattle.marker.proofs.put_mark.Tie as tie
+use Rattle.image_run.proofs.put_report.Statement.{statement}
+use Rattle.image_run.proofs.put_report.Tie as tie
 
 broken-line-requires : tie.Need-broken-line-requires
 broken-line-requires c κs = search needs
@@ -17,7 +17,7 @@ same-length c = search needs
 
 returns : tie.Need-returns
 returns c = let a = c .before .before .before .before .before .before .before .args in
-    (c .before .before .put-refusal .ensures .0 ∙ sym (refused-mark (state (a .r) (a .cells .now)) (c .before .before .before .before .before .broken-line .result) (c .before .before .before .before .before .broken-line .ensures) (c .before .before .before .before .if1 .taken)), c .before .before .put-refusal .ensures .1)
+    (c .before .before .put-refusal .ensures .0 ∙ sym (refused-report (state (a .r) (a .cells .now)) (c .before .before .before .before .before .broken-line .result) (c .before .before .before .before .before .broken-line .ensures) (c .before .before .before .before .if1 .taken)), c .before .before .put-refusal .ensures .1)
 
 slice-aggregate-put-start : tie.Need-slice-aggregate-put-start
 slice-aggregate-put-start c = search needs
@@ -45,10 +45,10 @@ same-length-3 c = search needs
 
 returns-2 : tie.Need-returns-2
 returns-2 c = let a = c .before .before .before .before .before .before .before .before .before .before .before .before .before .before .before .before .before .args in let m = c .before .before .before .before .before .before .before .run-image .ensures in
-    (c .before .before .put-run .ensures .0 ∙ run-mark (state (a .r) (a .cells .now)) (c .before .before .before .before .before .before .before .before .before .before .before .put-start .last .0) (c .before .before .before .before .before .before .before .run-image .last .1 .0) (c .before .before .before .before .before .before .before .run-image .result) (sym (c .before .before .before .before .before .before .before .before .before .before .before .before .before .before .before .broken-line .ensures) ∙ omega arith) (c .before .before .before .before .before .before .before .before .before .before .before .put-start .ensures) (m .0) (m .1), c .before .before .put-run .ensures .1)
+    (c .before .before .put-run .ensures .0 ∙ run-report (state (a .r) (a .cells .now)) (c .before .before .before .before .before .before .before .before .before .before .before .put-start .last .0) (c .before .before .before .before .before .before .before .run-image .last .1 .0) (c .before .before .before .before .before .before .before .run-image .result) (sym (c .before .before .before .before .before .before .before .before .before .before .before .before .before .before .before .broken-line .ensures) ∙ omega arith) (c .before .before .before .before .before .before .before .before .before .before .before .put-start .ensures) (m .0) (m .1), c .before .before .put-run .ensures .1)
 
-pub put-mark-spec : {M : Type 1} → statement M
-put-mark-spec =
+pub put-report-spec : {M : Type 1} → statement M
+put-report-spec =
     tie.close
     (tie.spec
     broken-line-requires
