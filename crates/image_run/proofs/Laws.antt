@@ -8,7 +8,7 @@ use borrow.Author.Tests.{lt-ltb}
 use Rattle.definition.specs.declared.Ran.{Ran}
 use Rattle.lines.specs.Reader.{State, brokenLine}
 use Rattle.report.specs.Text.{runText, refusalText}
-use Rattle.image_run.specs.Image.{startRow, imageRun, imageText, reportText}
+use Rattle.image_run.specs.Image.{startRow, imageRun, imageText, reportText, cellsLeft}
 
 pub refused-report : (s : State) (n : ℕ) → n ≡ brokenLine (s .reader) → 0 < n → reportText s ≡ refusalText n
 unfolding reportText
@@ -21,3 +21,11 @@ image-report s e = rw e
 pub run-report : (s : State) (row left : List ℤ) (ran : Ran) → brokenLine (s .reader) ≡ 0 → row ≡ startRow (replicate 16 (pos 0)) (s .reader .start) → ran ≡ imageRun (s .cells) row .answer → left ≡ imageRun (s .cells) row .left .row → runText ran left ≡ reportText s
 unfolding imageText
 run-report s row left ran z e a l = rw (a, l, e) (sym (image-report s z))
+
+pub refused-cells : (s : State) (n : ℕ) → n ≡ brokenLine (s .reader) → 0 < n → s .cells ≡ cellsLeft s
+unfolding cellsLeft
+refused-cells s n e h = rw (← e, lt-ltb 0 n h)
+
+pub run-cells : (s : State) (row left : List ℤ) → brokenLine (s .reader) ≡ 0 → row ≡ startRow (replicate 16 (pos 0)) (s .reader .start) → left ≡ imageRun (s .cells) row .left .cells → left ≡ cellsLeft s
+unfolding cellsLeft
+run-cells s row left z e l = rw (l, e, z)

@@ -34,3 +34,8 @@ reportText s =
 -- What the runner prints of a whole text.
 unfoldable pub printed : List ℕ → List ℕ
 printed text = reportText (readText text)
+
+-- The cells afterwards. A text that is no image is not run.
+unfoldable pub cellsLeft : State → List ℤ
+cellsLeft s =
+    cond (ltb 0 (brokenLine (s .reader))) (s .cells) (imageRun (s .cells) (startRow (replicate 16 (pos 0)) (s .reader .start)) .left .cells)

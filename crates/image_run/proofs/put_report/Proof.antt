@@ -1,7 +1,7 @@
-use mathlib.Core.Path.{sym, _∙_}
+use mathlib.Core.Path.{_≡_, sym, _∙_}
 use native.Mathlib.Omega.{arith}
-use Rattle.lines.specs.Reader.{state}
-use Rattle.image_run.proofs.Laws.{refused-report, run-report}
+use Rattle.lines.specs.Reader.{state, brokenLine}
+use Rattle.image_run.proofs.Laws.{refused-report, run-report, refused-cells, run-cells}
 use borrow.Author.Needs.{needs}
 use Rattle.image_run.proofs.put_report.Statement.{statement}
 use Rattle.image_run.proofs.put_report.Tie as tie
@@ -17,7 +17,11 @@ same-length c = search needs
 
 returns : tie.Need-returns
 returns c = let a = c .before .before .before .before .before .before .before .args in
-    (c .before .before .put-refusal .ensures .0 ∙ sym (refused-report (state (a .r) (a .cells .now)) (c .before .before .before .before .before .broken-line .result) (c .before .before .before .before .before .broken-line .ensures) (c .before .before .before .before .if1 .taken)), c .before .before .put-refusal .ensures .1)
+    let b = c .before .before .before .before .before .broken-line in
+    let taken = c .before .before .before .before .if1 .taken in
+    let s = state (a .r) (a .cells .now) in
+    let p = c .before .before .put-refusal .ensures in
+    (p .0 ∙ sym (refused-report s (b .result) (b .ensures) taken), (refused-cells s (b .result) (b .ensures) taken, p .1))
 
 slice-aggregate-put-start : tie.Need-slice-aggregate-put-start
 slice-aggregate-put-start c = search needs
@@ -44,8 +48,16 @@ same-length-3 : tie.Need-same-length-3
 same-length-3 c = search needs
 
 returns-2 : tie.Need-returns-2
-returns-2 c = let a = c .before .before .before .before .before .before .before .before .before .before .before .before .before .before .before .before .before .args in let m = c .before .before .before .before .before .before .before .run-image .ensures in
-    (c .before .before .put-run .ensures .0 ∙ run-report (state (a .r) (a .cells .now)) (c .before .before .before .before .before .before .before .before .before .before .before .put-start .last .0) (c .before .before .before .before .before .before .before .run-image .last .1 .0) (c .before .before .before .before .before .before .before .run-image .result) (sym (c .before .before .before .before .before .before .before .before .before .before .before .before .before .before .before .broken-line .ensures) ∙ omega arith) (c .before .before .before .before .before .before .before .before .before .before .before .put-start .ensures) (m .0) (m .1), c .before .before .put-run .ensures .1)
+returns-2 c = let d = c .before .before .before .before .before .before .before in
+    let e = d .before .before .before .before in
+    let b = e .before .before .before .before .broken-line in
+    let a = e .before .before .before .before .before .before .args in
+    let s = state (a .r) (a .cells .now) in
+    let z : brokenLine (a .r) ≡ 0 = sym (b .ensures) ∙ omega arith in
+    let row = e .put-start .last .0 in
+    let m = d .run-image .ensures in
+    let p = c .before .before .put-run .ensures in
+    (p .0 ∙ run-report s row (d .run-image .last .1 .0) (d .run-image .result) z (e .put-start .ensures) (m .0) (m .1), (run-cells s row (d .run-image .last .0) z (e .put-start .ensures) (m .2), p .1))
 
 pub put-report-spec : {M : Type 1} → statement M
 put-report-spec =

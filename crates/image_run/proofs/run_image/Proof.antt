@@ -24,7 +24,7 @@ same-length-2 c = search needs
 returns : tie.Need-returns
 unfolding imageRun
 returns c = let e = c .before .before .before .before .z33-run .ensures in
-    (ap (λ (x : Called Ran Lent). x .answer) e, ap (λ (x : Called Ran Lent). x .left .row) e)
+    (ap (λ (x : Called Ran Lent). x .answer) e, ap (λ (x : Called Ran Lent). x .left .row) e, ap (λ (x : Called Ran Lent). x .left .cells) e)
 
 pub run-image-spec : {M : Type 1} → statement M
 run-image-spec =
