@@ -10,7 +10,7 @@ use borrow.Author.Tests.{lt-leb}
 use Rattle.definition.specs.declared.Ran.{Ran}
 use Rattle.definition.specs.declared.Registers.{Registers}
 use Rattle.definition.specs.Word.{addressOf}
-use Rattle.definition.specs.Memory.{cell, empty, cellCount, cellAt}
+use Rattle.definition.specs.Memory.{empty, cellCount, cellAt}
 use Rattle.definition.specs.Encoding.{sound, soundAt, isAddress}
 use Rattle.definition.specs.Io as I
 use Rattle.definition.specs.Computer.{core}

@@ -5,7 +5,6 @@ use lines::Start;
 ghost use mathlib.Core.Path.{_≡_};
 ghost use lib.ListN.{length, take};
 ghost use Rattle.io.specs.Counts.{Counts};
-ghost use Rattle.definition.specs.Calls.{runCall};
 ghost use Rattle.lines.specs.Reader.{state};
 ghost use Rattle.image_run.specs.Image.{startRow, imageRun, reportText, cellsLeft};
 
