@@ -15,20 +15,20 @@ use Rattle.lines.specs.Grammar as G
 use Rattle.lines.proofs.Complete.{startOf}
 use Rattle.lines.proofs.Exact.{taken, broken-at}
 use Rattle.report.specs.Text.{decimalIn, decimal, numeral, refusalText}
-use Rattle.marker.specs.Image.{imageText, printed}
-use Rattle.marker.proofs.Laws.{refused-mark, image-mark}
+use Rattle.image_run.specs.Image.{imageText, printed}
+use Rattle.image_run.proofs.Laws.{refused-report, image-report}
 
 -- An image gives the seven lines of its run.
 pub image-printed : {n : ℕ} {s : List ℕ} {pc sp sr : ℤ} {m : List ℤ} → length s < 18446744073709551615 → Image n s pc sp sr m → printed s ≡ imageText m (startOf pc sp sr)
 unfolding printed
 image-printed {s = s} {pc} {sp} {sr} {m} h i =
     let t = taken h i in
-    image-mark (readText s) (t .0) ∙ ap (λ (l : List ℤ). imageText l (readText s .reader .start)) (t .1 .1) ∙ ap (imageText m) (t .1 .0)
+    image-report (readText s) (t .0) ∙ ap (λ (l : List ℤ). imageText l (readText s .reader .start)) (t .1 .1) ∙ ap (imageText m) (t .1 .0)
 
 -- Any other text gives only `refused,12,` and the line that breaks the form.
 pub refusal-printed : {k : ℕ} {s : List ℕ} → length s < 18446744073709551615 → Breaks k s → printed s ≡ refusalText (k + 1)
 unfolding printed
-refusal-printed {k} {s} h b = refused-mark (readText s) (k + 1) (sym (broken-at h b)) (omega arith)
+refusal-printed {k} {s} h b = refused-report (readText s) (k + 1) (sym (broken-at h b)) (omega arith)
 
 -- What stands for a number is a numeral of the grammar, and that number's.
 digits-printed : (k n : ℕ) → n < 10 ^ suc k → Digits (decimalIn (suc k) n) n

@@ -1,10 +1,10 @@
 use mathlib.Core.Path.{ap}
 use Rattle.definition.specs.declared.Ran.{Ran}
 use Rattle.definition.specs.Calls.{Called, Lent}
-use Rattle.marker.specs.Image.{marked}
+use Rattle.image_run.specs.Image.{imageRun}
 use borrow.Author.Needs.{needs}
-use Rattle.marker.proofs.run_image.Statement.{statement}
-use Rattle.marker.proofs.run_image.Tie as tie
+use Rattle.image_run.proofs.run_image.Statement.{statement}
+use Rattle.image_run.proofs.run_image.Tie as tie
 
 slice-aggregate-z33-run : tie.Need-slice-aggregate-z33-run
 slice-aggregate-z33-run c = search needs
@@ -22,9 +22,9 @@ same-length-2 : tie.Need-same-length-2
 same-length-2 c = search needs
 
 returns : tie.Need-returns
-unfolding marked
+unfolding imageRun
 returns c = let e = c .before .before .before .before .z33-run .ensures in
-    (ap (λ (x : Called Ran Lent). x .answer) e, ap (λ (x : Called Ran Lent). x .left .row) e)
+    (ap (λ (x : Called Ran Lent). x .answer) e, ap (λ (x : Called Ran Lent). x .left .row) e, ap (λ (x : Called Ran Lent). x .left .cells) e)
 
 pub run-image-spec : {M : Type 1} → statement M
 run-image-spec =

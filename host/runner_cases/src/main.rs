@@ -1,5 +1,5 @@
 //! Writes the files of crates/runner_cases: inputs of the runner, each with the text that is due.
-//! `marks LIST FOLDER`: the course's programs by the judge's answers, malformed inputs, and the recorded list's programs for the runner.
+//! `runner_cases LIST FOLDER`: the course's programs by the judge's answers, malformed inputs, and the recorded list's programs for the runner.
 
 mod course;
 mod image;
@@ -20,7 +20,7 @@ const MOST: usize = 65_000;
 fn main() {
     let arguments: Vec<String> = std::env::args().collect();
     let [_, list, folder] = &arguments[..] else {
-        eprintln!("usage: marks LIST FOLDER");
+        eprintln!("usage: runner_cases LIST FOLDER");
         std::process::exit(2);
     };
     let list = std::fs::read_to_string(list).expect("the recorded list can be read");

@@ -20,8 +20,8 @@ use Rattle.lines.specs.Reader.{letter, openingByte, valueOf, digit, comma, minu
 use Rattle.lines.specs.Reader as R
 use Rattle.lines.proofs.Complete.{startOf}
 use Rattle.report.specs.Text.{decimalIn, numeral, fields, line, answerText, registersText, cellsText, runText}
-use Rattle.marker.specs.Image.{marked, imageText, printed}
-use Rattle.marker.proofs.Laws.{image-mark}
+use Rattle.image_run.specs.Image.{imageRun, imageText, printed}
+use Rattle.image_run.proofs.Laws.{image-report}
 
 -- `start,0,0,0`, `0,202,5,0`, `1,20702,0,0`
 abbrev input : List ℕ
@@ -39,10 +39,10 @@ unfolding readText R.step letter openingByte valueOf digit comma minus plain wit
 read = refl
 
 shown : imageText cells (startOf (pos 0) (pos 0) (pos 0)) ≡ output
-unfolding wrap isWord wrapped addressOf bit putBit lowByte ending wordAt extractWord isInstruction cellAt putCell found get regAt supervisor interruptEnable getReg putPc putSp putSr putReg operand modeCost cellThere extractCell wordThere operandWord opAt allows signature legal cost decode instructionAt extractInstruction registerFits isAddress numberFits soundInstruction soundAt sound outputFull andThen branch orWord orCell orPut checkPrivileged andFlags putResult putWrapped words reset quiet outOp execute orInstruction fetch attempt ends poll conclude serve afterAttempt turn hasHandler settle reached limit step later goOn run machineOf rowOf verdict isBelow isMark lowestDamaged cellsTest queueTest outputTest lengthTest rowTests damageTest runCheck ran runCall decimalIn numeral fields line answerText registersText cellsText runText marked imageText
+unfolding wrap isWord wrapped addressOf bit putBit lowByte ending wordAt extractWord isInstruction cellAt putCell found get regAt supervisor interruptEnable getReg putPc putSp putSr putReg operand modeCost cellThere extractCell wordThere operandWord opAt allows signature legal cost decode instructionAt extractInstruction registerFits isAddress numberFits soundInstruction soundAt sound outputFull andThen branch orWord orCell orPut checkPrivileged andFlags putResult putWrapped words reset quiet outOp execute orInstruction fetch attempt ends poll conclude serve afterAttempt turn hasHandler settle reached limit step later goOn run machineOf rowOf verdict isBelow isMark lowestDamaged cellsTest queueTest outputTest lengthTest rowTests damageTest runCheck ran runCall decimalIn numeral fields line answerText registersText cellsText runText imageRun imageText
 shown = refl
 
 pub worked : printed input ≡ output
 unfolding printed brokenLine
 worked =
-    image-mark (readText input) (ap (λ (u : R.State). brokenLine (u .reader)) read) ∙ ap (λ (u : R.State). imageText (u .cells) (u .reader .start)) read ∙ shown
+    image-report (readText input) (ap (λ (u : R.State). brokenLine (u .reader)) read) ∙ ap (λ (u : R.State). imageText (u .cells) (u .reader .start)) read ∙ shown

@@ -10,7 +10,7 @@ use borrow.Author.Tests.{lt-leb}
 use Rattle.definition.specs.declared.Ran.{Ran}
 use Rattle.definition.specs.declared.Registers.{Registers}
 use Rattle.definition.specs.Word.{addressOf}
-use Rattle.definition.specs.Memory.{cell, empty, cellCount, cellAt}
+use Rattle.definition.specs.Memory.{empty, cellCount, cellAt}
 use Rattle.definition.specs.Encoding.{sound, soundAt, isAddress}
 use Rattle.definition.specs.Io as I
 use Rattle.definition.specs.Exec.{core}
@@ -25,7 +25,7 @@ use Rattle.lines.specs.Grammar.{CellLines, Image}
 use Rattle.lines.specs.Grammar as G
 use Rattle.lines.proofs.Laws.{below-in}
 use Rattle.lines.proofs.Complete.{startOf}
-use Rattle.marker.specs.Image.{startRow, marked}
+use Rattle.image_run.specs.Image.{startRow, imageRun}
 
 -- The machine that an image starts: a and b empty, no cycle, nothing on the console.
 abbrev pub startMachine : List ℤ → ℕ → ℕ → ℤ → Machine
@@ -78,16 +78,16 @@ unfolding rowOf
 row-is m pc sp sr = refl
 
 -- The seven lines are those of the definition's run.
-pub image-runs : {n : ℕ} {t : List ℕ} {pc sp sr : ℤ} {m : List ℤ} → Image n t pc sp sr m → marked m (startRow (replicate 16 (pos 0)) (startOf pc sp sr)) ≡ ran (run 100000 (startMachine m (natAbs pc) (natAbs sp) sr))
-unfolding marked
+pub image-runs : {n : ℕ} {t : List ℕ} {pc sp sr : ℤ} {m : List ℤ} → Image n t pc sp sr m → imageRun m (startRow (replicate 16 (pos 0)) (startOf pc sp sr)) ≡ ran (run 100000 (startMachine m (natAbs pc) (natAbs sp) sr))
+unfolding imageRun
 image-runs {pc = pc} {sp} {sr} {m} i =
     let a = addresses i in
-    ap (λ (z : ℤ). marked m (startRow (replicate 16 (pos 0)) (startOf z sp sr))) (sym (address pc (a .0) .0))
-    ∙ ap (λ (z : ℤ). marked m (startRow (replicate 16 (pos 0)) (startOf (pos (natAbs pc)) z sr))) (sym (address sp (a .1) .0))
+    ap (λ (z : ℤ). imageRun m (startRow (replicate 16 (pos 0)) (startOf z sp sr))) (sym (address pc (a .0) .0))
+    ∙ ap (λ (z : ℤ). imageRun m (startRow (replicate 16 (pos 0)) (startOf (pos (natAbs pc)) z sr))) (sym (address sp (a .1) .0))
     ∙ ap (runCall 100000) (sym (row-is m (natAbs pc) (natAbs sp) sr))
     ∙ call-on 100000 (startMachine m (natAbs pc) (natAbs sp) sr) (start-accepted i)
 
 -- So it is not refused.
-pub image-accepted : {n : ℕ} {t : List ℕ} {pc sp sr : ℤ} {m : List ℤ} → Image n t pc sp sr m → marked m (startRow (replicate 16 (pos 0)) (startOf pc sp sr)) .answer .refusal ≡ 0
+pub image-accepted : {n : ℕ} {t : List ℕ} {pc sp sr : ℤ} {m : List ℤ} → Image n t pc sp sr m → imageRun m (startRow (replicate 16 (pos 0)) (startOf pc sp sr)) .answer .refusal ≡ 0
 unfolding ran
 image-accepted i = ap (λ (x : Called Ran Lent). x .answer .refusal) (image-runs i)
