@@ -3,8 +3,9 @@ use runtime::State;
 ghost use mathlib.Core.Path.{_≡_};
 ghost use Prim.Native.Nat.{_<_, _^_};
 ghost use lib.ListN.{length};
+ghost use Rattle.definition.specs.Constants.{ROW, ROW-PC, ROW-SP};
 ghost use Rattle.definition.specs.Calls.{at};
-ghost use Rattle.row.specs.Meaning.{Below};
+ghost use Rattle.definition.specs.Accepted.{Below};
 ghost use Rattle.z33.specs.Meaning.{rowState};
 
 pub mod cells;
@@ -16,7 +17,7 @@ pub mod serial;
 
 // The machine in an accepted row.
 fn state(row: &[i64]) -> State
-    requires { ⌜ (length (now row) ≡ 16) × (Below (2 ^ 32) (at 7 (now row)) × Below (2 ^ 32) (at 8 (now row))) ⌝ }
+    requires { ⌜ (length (now row) ≡ ROW) × (Below (2 ^ 32) (at ROW-PC (now row)) × Below (2 ^ 32) (at ROW-SP (now row))) ⌝ }
     ensures { λ r. ⌜ r ≡ rowState (now (row .entry)) ⌝ }
 {
     State {
