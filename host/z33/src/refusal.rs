@@ -1,5 +1,7 @@
 use std::{error, fmt};
 
+use crate::ROW_LENGTH;
+
 /// Why a call was refused. A refused call has changed nothing.
 #[derive(Clone, Copy, Debug, PartialEq, Eq, Hash)]
 pub enum Refusal {
@@ -77,7 +79,7 @@ impl fmt::Display for Refusal {
             Refusal::Cells => write!(f, "the cells are not three numbers each for 256 to 10,000 cells"),
             Refusal::Queue => write!(f, "the queue is not 1 to 4,096 bytes"),
             Refusal::Output => write!(f, "the output record is over 65,536 bytes"),
-            Refusal::Row { place: 0 } => write!(f, "the row is not 16 numbers"),
+            Refusal::Row { place: 0 } => write!(f, "the row is not {ROW_LENGTH} numbers"),
             Refusal::Row { place } => write!(f, "the row's number {place} is out of its range"),
             Refusal::DamagedCell { address } => write!(f, "the cell at {address} is damaged"),
             Refusal::Delivery => write!(f, "more bytes than the queue has free places"),

@@ -4,7 +4,7 @@
 
 use std::collections::{BTreeMap, BTreeSet};
 
-use z33::{Cell, Exception, NEGATIVE, OVERFLOW, Stop, SUPERVISOR, ZERO, lent};
+use z33::{Cell, Exception, NEGATIVE, OVERFLOW, SUPERVISOR, Stop, ZERO, lent};
 
 const CELLS: usize = 256;
 /// Where the instruction that is tried stands. No exception has a handler, so a step that completes has entered none.
@@ -228,16 +228,26 @@ fn flags_cycles_exceptions_and_stops_are_those_of_the_manual() {
         let says = (&of.cycles, &of.raises, &of.stops);
         let is = (&met.cycles, &met.raises, &met.stops);
         if says != is {
-            wrong.push(format!("{}: cycles, raises and stops are {is:?}, and the manual says {says:?}", of.name));
+            wrong.push(format!(
+                "{}: cycles, raises and stops are {is:?}, and the manual says {says:?}",
+                of.name
+            ));
         }
         let bits: i64 = [("Z", ZERO), ("N", NEGATIVE), ("V", OVERFLOW)]
             .iter()
             .filter(|(name, _)| of.flags.contains(name))
             .map(|(_, bit)| bit)
             .sum();
-        let flags_are = if of.flags == "all of sr" { met.changed & !(ZERO | NEGATIVE | OVERFLOW) != 0 } else { met.changed == bits && met.set == bits && met.cleared == bits };
+        let flags_are = if of.flags == "all of sr" {
+            met.changed & !(ZERO | NEGATIVE | OVERFLOW) != 0
+        } else {
+            met.changed == bits && met.set == bits && met.cleared == bits
+        };
         if !flags_are {
-            wrong.push(format!("{}: bits {:#x} of sr were set and {:#x} cleared, and the manual says '{}'", of.name, met.set, met.cleared, of.flags));
+            wrong.push(format!(
+                "{}: bits {:#x} of sr were set and {:#x} cleared, and the manual says '{}'",
+                of.name, met.set, met.cleared, of.flags
+            ));
         }
     }
     assert!(wrong.is_empty(), "\n{}", wrong.join("\n"));
@@ -247,6 +257,7 @@ fn flags_cycles_exceptions_and_stops_are_those_of_the_manual() {
 fn exceptions_have_the_manual_s_codes() {
     let rows = table("| code | exception |");
     let says: Vec<(String, String)> = rows.iter().map(|row| (row[0].clone(), row[1].clone())).collect();
-    let is: Vec<(String, String)> = Exception::ALL.iter().map(|e| (e.code().to_string(), e.to_string())).collect();
+    let is: Vec<(String, String)> =
+        Exception::ALL.iter().map(|e| (e.code().to_string(), e.to_string())).collect();
     assert_eq!(says, is);
 }
