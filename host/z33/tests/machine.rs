@@ -1,6 +1,6 @@
 //! The wrapper: what each call answers, each refusal and stop by its name and as it prints, and buffers as `Vec` and slices.
 
-use z33::{Cell, Exception, Machine, Ran, Refusal, Register, SUPERVISOR, Stop, lent};
+use z33::{Cell, Exception, Machine, ROW_LENGTH, Ran, Refusal, Register, SUPERVISOR, Stop, lent};
 
 const RESET: Cell = Cell::Instruction { tag: 20702, first: 0, second: 0 };
 const NOP: Cell = Cell::Instruction { tag: 15302, first: 0, second: 0 };
@@ -37,7 +37,9 @@ fn sizes_are_refused_by_name() {
 
 #[test]
 fn each_refusal_has_its_number_and_words() {
-    let mut row = vec![0; 16];
+    let mut row = vec![0; ROW_LENGTH];
+    let mut damaged = [0; ROW_LENGTH];
+    damaged[..3].copy_from_slice(&[1, 2, 3]);
     let mut cells = vec![0; 768];
     let mut m = machine(&[RESET]);
     let refusals = [
@@ -48,12 +50,8 @@ fn each_refusal_has_its_number_and_words() {
         ),
         (lent::deliver(&mut [], &mut row, &[]), 2, "the queue is not 1 to 4,096 bytes"),
         (lent::drain(&[0; 65_537], &mut row, &mut []).map(drop), 3, "the output record is over 65,536 bytes"),
-        (lent::set_register(&mut row[..15], Register::A, 0), 4, "the row is not 16 numbers"),
-        (
-            lent::set_register(&mut [1, 2, 3, 0, 0, 0, 0, 0, 0, 0, 0, 0, 0, 0, 0, 0], Register::A, 0),
-            4,
-            "the row's number 1 is out of its range",
-        ),
+        (lent::set_register(&mut row[1..], Register::A, 0), 4, "the row is not 16 numbers"),
+        (lent::set_register(&mut damaged, Register::A, 0), 4, "the row's number 1 is out of its range"),
         (lent::read_cell(&[[-1, 0, 0]; 256].concat(), 7).map(drop), 5, "the cell at 7 is damaged"),
         (m.deliver(b"12345"), 6, "more bytes than the queue has free places"),
         (m.cell(2048).map(drop), 8, "the address is outside the cells"),
@@ -135,7 +133,7 @@ fn each_stop_has_its_number_and_words() {
     assert_eq!((ran.stop, ran.stop.number()), (Stop::CellError, 3));
     assert_eq!(ran.stop.to_string(), "a word or address that the instruction cannot take");
     assert_eq!((Stop::CyclesFull.number(), Stop::CyclesFull.to_string().as_str()), (7, "cycle count full"));
-    let mut row = vec![0; 16];
+    let mut row = vec![0; ROW_LENGTH];
     row[9] = i64::MAX;
     let mut cells = [NOP.numbers(); 256].concat();
     assert_eq!(lent::run(&mut cells, &mut [0], &mut [], &mut row, 1).unwrap().stop, Stop::CyclesFull);
