@@ -14,7 +14,7 @@ ghost use Rattle.definition.specs.Memory.{cellAt};
 ghost use Rattle.definition.specs.Encoding.{legal, cost, decode, registerFits, isAddress, numberFits, soundInstruction, soundAt, sound};
 ghost use Rattle.definition.specs.Calls.{lowestDamaged};
 ghost use Rattle.encoding.specs.Table.{costTable};
-ghost use Rattle.encoding.specs.Instr.{instrOf};
+ghost use Rattle.encoding.specs.Meaning.{instrOf};
 
 // An instruction as it is executed.
 pub struct Instr {

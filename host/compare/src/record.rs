@@ -1,6 +1,7 @@
 //! The recorded list: the judge's answers to a fixed choice of cases.
 
 use judge::Judge;
+use layout::at;
 use list::{Call, Case, Lent, Recorded, Writer};
 
 use crate::coverage::{Coverage, outcome};
@@ -123,7 +124,7 @@ impl Recorder {
         worked.put(0, [202, 5, 0]);
         worked.put(1, [20_702, 0, 0]);
         let mut full = runner::start();
-        full.row[8] = directed::S;
+        full.row[at::SR] = directed::S;
         full.put(0, instruction(ADD, imm(3), reg(A)));
         full.put(1, instruction(OUT, reg(A), dir(111)));
         full.put(2, instruction(JMP, imm(0), NONE));
