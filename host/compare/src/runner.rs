@@ -102,8 +102,7 @@ fn touches(before: &Row, after: &Row, cell: Option<Cell>) -> bool {
     moved[at::PC] += 1;
     let mut places = vec![before[at::PC], before[at::SP], after[at::SP]];
     if let Some([tag, first, second]) = cell {
-        let Form { m1, m2, .. } = Form::of_tag(tag);
-        let (r1, r2) = registers_of(tag);
+        let (Form { m1, m2, .. }, (r1, r2)) = split(tag);
         for row in [&moved, after] {
             places.push(named(row, m1, r1, first));
             places.push(named(row, m2, r2, second));
