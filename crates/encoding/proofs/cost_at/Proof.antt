@@ -1,4 +1,3 @@
--- `encoding::cost_at` meets its contract.
 use mathlib.Core.Path.{_∙_}
 use borrow.Author.Needs.{needs}
 use Rattle.encoding.proofs.Rule.{rule}

@@ -1,4 +1,3 @@
--- `encoding::is_legal` meets its contract.
 use mathlib.Core.Path.{_∙_, ap}
 use lib.Dec.{ltb}
 use borrow.Author.Needs.{needs}

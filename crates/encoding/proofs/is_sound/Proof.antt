@@ -1,4 +1,3 @@
--- `encoding::is_sound` meets its contract.
 use mathlib.Core.Path.{_∙_, ap}
 use Prim.Native.Nat.{ℕ}
 use lib.Dec.{eqb}

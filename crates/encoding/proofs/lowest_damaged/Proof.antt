@@ -1,4 +1,3 @@
--- `encoding::lowest_damaged` meets its contract.
 use mathlib.Core.Path.{refl}
 use borrow.Author.Needs.{needs}
 use Rattle.encoding.specs.Table.{costTable}

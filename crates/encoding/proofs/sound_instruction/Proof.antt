@@ -1,4 +1,3 @@
--- `encoding::sound_instruction` meets its contract.
 use mathlib.Core.Path.{_≡_, _∙_, sym}
 use Prim.Native.Nat.{_*_, _-_, _/_, _%_}
 use native.Mathlib.Omega.{arith}

@@ -4,8 +4,9 @@
 
 use std::ptr::{null, null_mut};
 
-use crate::answers::{Cell, Done, Drained, Raised, Ran};
-use crate::declared as c;
+use z33_sys as c;
+
+use crate::{Cell, Done, Drained, Raised, Ran};
 
 pub fn fresh<'a>(cells: impl Into<Option<&'a mut [i64]>>, row: impl Into<Option<&'a mut [i64]>>) -> Done {
     let ((cells, cells_len), (row, row_len)) = (lend(cells), lend(row));

@@ -2,8 +2,7 @@
 
 use list::{Answer, Lent, Machine};
 
-use crate::answers::{Drained, Raised, Ran};
-use crate::calls;
+use crate::{Drained, Raised, Ran, calls};
 
 /// An `Answer` has no room for a refusal's place; crate `calls` compares places.
 pub struct Library;
