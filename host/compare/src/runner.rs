@@ -1,17 +1,14 @@
 //! Programs for the runner: its sizes and start row, and no cell touched from 2,048 on.
 
 use judge::Judge;
+pub use layout::runner::BUDGET;
+use layout::runner::{CELLS as RUNNER_CELLS, OUTPUT, QUEUE};
 use layout::{Cell, Row, at, cell, row};
 use list::{Answer, CELLS, Call, Case, Lent, Machine, Plain};
 
 use crate::forms::*;
 use crate::programs::{Layout, put_code, put_handler};
 use crate::rng::Rng;
-
-pub const RUNNER_CELLS: usize = 2_048;
-pub const QUEUE: usize = 256;
-pub const OUTPUT: usize = 4_096;
-pub const BUDGET: u32 = 100_000;
 
 /// A program that the runner runs as the judge does; none where the draw touched a cell from 2,048 on,
 /// or that has not stopped when the limit, in steps, is at an end.
