@@ -25,7 +25,7 @@ use Rattle.lines.specs.Grammar.{CellLines, Image}
 use Rattle.lines.specs.Grammar as G
 use Rattle.lines.proofs.Laws.{below-in}
 use Rattle.lines.proofs.Complete.{startOf}
-use Rattle.image_run.specs.Image.{startRow, imageRun}
+use Rattle.image_run.specs.Image.{imageRow, imageRun}
 
 -- The machine that an image starts: a and b empty, no cycle, nothing on the console.
 abbrev pub startMachine : List ℤ → ℕ → ℕ → ℤ → Machine
@@ -73,21 +73,21 @@ start-accepted {pc = pc} {sp} {sr} (G.image (G.startLine ra rb rc okPc okSp) cs)
     let c = empty-core 2048 (omega arith) (omega arith) s (p .1) (q .1) empty-sound empty-sound in
     record { core-in = lines-accepted s cs c refl .0; cycles-in = omega arith; console-in = record { some = omega arith; few = omega arith; small = omega arith; start-in = omega arith; count-in = omega arith; written-in = omega arith } }
 
-row-is : (m : List ℤ) (pc sp : ℕ) (sr : ℤ) → lentOf (startMachine m pc sp sr) ≡ lent m (replicate 256 0) (replicate 4096 0) (startRow (replicate 16 (pos 0)) (startOf (pos pc) (pos sp) sr))
+row-is : (m : List ℤ) (pc sp : ℕ) (sr : ℤ) → lentOf (startMachine m pc sp sr) ≡ lent m (replicate 256 0) (replicate 4096 0) (imageRow (startOf (pos pc) (pos sp) sr))
 unfolding rowOf
 row-is m pc sp sr = refl
 
 -- The seven lines are those of the definition's run.
-pub image-runs : {n : ℕ} {t : List ℕ} {pc sp sr : ℤ} {m : List ℤ} → Image n t pc sp sr m → imageRun m (startRow (replicate 16 (pos 0)) (startOf pc sp sr)) ≡ ran (run 100000 (startMachine m (natAbs pc) (natAbs sp) sr))
+pub image-runs : {n : ℕ} {t : List ℕ} {pc sp sr : ℤ} {m : List ℤ} → Image n t pc sp sr m → imageRun m (imageRow (startOf pc sp sr)) ≡ ran (run 100000 (startMachine m (natAbs pc) (natAbs sp) sr))
 unfolding imageRun
 image-runs {pc = pc} {sp} {sr} {m} i =
     let a = addresses i in
-    ap (λ (z : ℤ). imageRun m (startRow (replicate 16 (pos 0)) (startOf z sp sr))) (sym (address pc (a .0) .0))
-    ∙ ap (λ (z : ℤ). imageRun m (startRow (replicate 16 (pos 0)) (startOf (pos (natAbs pc)) z sr))) (sym (address sp (a .1) .0))
+    ap (λ (z : ℤ). imageRun m (imageRow (startOf z sp sr))) (sym (address pc (a .0) .0))
+    ∙ ap (λ (z : ℤ). imageRun m (imageRow (startOf (pos (natAbs pc)) z sr))) (sym (address sp (a .1) .0))
     ∙ ap (runCall 100000) (sym (row-is m (natAbs pc) (natAbs sp) sr))
     ∙ call-on 100000 (startMachine m (natAbs pc) (natAbs sp) sr) (start-accepted i)
 
 -- So it is not refused.
-pub image-accepted : {n : ℕ} {t : List ℕ} {pc sp sr : ℤ} {m : List ℤ} → Image n t pc sp sr m → imageRun m (startRow (replicate 16 (pos 0)) (startOf pc sp sr)) .answer .refusal ≡ 0
+pub image-accepted : {n : ℕ} {t : List ℕ} {pc sp sr : ℤ} {m : List ℤ} → Image n t pc sp sr m → imageRun m (imageRow (startOf pc sp sr)) .answer .refusal ≡ 0
 unfolding ran
 image-accepted i = ap (λ (x : Called Ran Lent). x .answer .refusal) (image-runs i)
