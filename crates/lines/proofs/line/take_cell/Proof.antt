@@ -5,10 +5,10 @@ use mathlib.Core.Bool.{true, false}
 use lib.IntN.{natAbs}
 use Rattle.definition.specs.Calls.{isBelow}
 use Rattle.definition.specs.Encoding.{sound}
+use Rattle.definition.proofs.Row.{below-in}
 use Rattle.word.proofs.Laws.{back}
 use Rattle.lines.specs.declared.Reader.{Reader}
 use Rattle.lines.specs.Reader.{lineCell, state}
-use Rattle.definition.proofs.Row.{below-in}
 use Rattle.lines.proofs.Laws.{cell-put, cell-damaged, cell-outside}
 use borrow.Author.Needs.{needs}
 use Rattle.lines.proofs.line.take_cell.Statement.{statement}
