@@ -3,7 +3,7 @@
 use std::collections::{BTreeMap, BTreeSet};
 
 use layout::limit::CELLS_MOST;
-use layout::refusal::{DAMAGED_CELL, ROW};
+use layout::refusal::{DAMAGED_CELL, NONE, ROW};
 use layout::row::{RANGED, from_1};
 use layout::stop;
 
@@ -27,7 +27,7 @@ impl Coverage {
     pub fn count(&mut self, trial: &Trial, answer: &Answer) {
         self.trials += 1;
         let call = trial.call;
-        if answer.refusal > 0 {
+        if answer.refusal != NONE {
             *self.refused.entry((call, (answer.refusal, answer.place))).or_default() += 1;
         } else {
             let stop = if matches!(call, Call::Run | Call::Raise) { answer.rest[0] as u64 } else { 0 };

@@ -2,6 +2,7 @@
 
 use judge::Judge;
 use layout::at;
+use layout::stop::{BUDGET_SPENT, OUTPUT_FULL};
 use list::{Call, Case, Lent, Recorded, Writer};
 
 use crate::coverage::{Coverage, outcome};
@@ -146,7 +147,11 @@ impl Recorder {
             if open.iter().all(|(left, _)| *left == 0) {
                 return Ok(());
             }
-            let limit = if open[0].0 + open[6].0 > 0 { runner::BUDGET } else { LIMIT };
+            let limit = if open[BUDGET_SPENT as usize].0 + open[OUTPUT_FULL as usize].0 > 0 {
+                runner::BUDGET
+            } else {
+                LIMIT
+            };
             let Some((case, answer)) = runner::draw(&mut rng, &mut judge, limit) else { continue };
             let Some((left, least)) = open.get_mut(answer.stop as usize) else { continue };
             if *left > 0 && answer.count >= *least {

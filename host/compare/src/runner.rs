@@ -1,17 +1,14 @@
 //! Programs for the runner: its sizes and start row, and no cell touched from 2,048 on.
 
 use judge::Judge;
+pub use layout::runner::BUDGET;
+use layout::runner::{CELLS as RUNNER_CELLS, OUTPUT, QUEUE};
 use layout::{Cell, Row, at, cell, row};
 use list::{Answer, CELLS, Call, Case, Lent, Machine, Plain};
 
 use crate::forms::*;
 use crate::programs::{Layout, put_code, put_handler};
 use crate::rng::Rng;
-
-pub const RUNNER_CELLS: usize = 2_048;
-pub const QUEUE: usize = 256;
-pub const OUTPUT: usize = 4_096;
-pub const BUDGET: u32 = 100_000;
 
 /// A program that the runner runs as the judge does; none where the draw touched a cell from 2,048 on,
 /// or that has not stopped when the limit, in steps, is at an end.
@@ -102,8 +99,7 @@ fn touches(before: &Row, after: &Row, cell: Option<Cell>) -> bool {
     moved[at::PC] += 1;
     let mut places = vec![before[at::PC], before[at::SP], after[at::SP]];
     if let Some([tag, first, second]) = cell {
-        let Form { m1, m2, .. } = Form::of_tag(tag);
-        let (r1, r2) = registers_of(tag);
+        let (Form { m1, m2, .. }, (r1, r2)) = split(tag);
         for row in [&moved, after] {
             places.push(named(row, m1, r1, first));
             places.push(named(row, m2, r2, second));

@@ -2,7 +2,7 @@
 //! Which forms are instructions is decided by the original's own operand types and conversions.
 
 use layout::cell::{EMPTY, TAG_EMPTY, TAG_LEAST_INSTRUCTION, TAG_WORD, word};
-use layout::form::{self, Form, NONE, Operand, registers_of};
+use layout::form::{self, Form, NONE, Operand, split};
 use layout::mode::{DIR, IDX, IMM, IND, NO, REG};
 use layout::{Cell as Flat, op, reg as number_of};
 
@@ -32,7 +32,7 @@ pub(crate) fn decode([tag, first, second]: Flat) -> Option<Cell> {
         TAG_EMPTY if first == 0 && second == 0 => Some(Cell::Empty),
         TAG_WORD if second == 0 => Some(Cell::Word(first)),
         TAG_LEAST_INSTRUCTION.. => {
-            let (Form { op, m1, m2 }, (r1, r2)) = (Form::of_tag(tag), registers_of(tag));
+            let (Form { op, m1, m2 }, (r1, r2)) = split(tag);
             let x = operand(m1, r1, first)?;
             let y = operand(m2, r2, second)?;
             Some(instruction(op, x, y)?.into())

@@ -1,9 +1,9 @@
 //! Which cells a step may have written, so that the lent cells are brought up to date without looking at all of them.
 
 use layout::cell::word_in;
-use layout::form::registers_of;
+use layout::form::{Form, split};
 use layout::mode::{DIR, IDX, IND};
-use layout::{Cell, Form, Row, at, reg, row};
+use layout::{Cell, Row, at, reg, row};
 
 use crate::constants::{
     INTERRUPT_EXCEPTION, INTERRUPT_HANDLER, INTERRUPT_PC_SAVE, INTERRUPT_SR_SAVE, MEMORY_SIZE,
@@ -25,7 +25,7 @@ pub fn may_have_written(row: &Row, next: &Row, entry: &Row, fetched: Option<Cell
     let Some([tag, first, second]) = fetched else { return places };
     let mut moved = *row;
     moved[at::PC] += 1;
-    let (Form { m1, m2, .. }, (r1, r2)) = (Form::of_tag(tag), registers_of(tag));
+    let (Form { m1, m2, .. }, (r1, r2)) = split(tag);
     places[3] = in_cells(next[at::SP]);
     places[4] = resolve(m2, r2, second, &moved);
     places[5] = resolve(m1, r1, first, &moved);

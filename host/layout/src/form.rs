@@ -35,10 +35,8 @@ impl Form {
         TAG_LEAST_INSTRUCTION + self.entry() as i64 * REGISTER_PAIRS + r1 * REGISTERS + r2
     }
 
-    #[inline]
     pub const fn of_tag(tag: i64) -> Self {
-        let form = (tag - TAG_LEAST_INSTRUCTION) / REGISTER_PAIRS;
-        Self { op: form / (MODES * MODES), m1: form / MODES % MODES, m2: form % MODES }
+        split(tag).0
     }
 
     pub fn name(self) -> String {
@@ -46,11 +44,13 @@ impl Form {
     }
 }
 
-/// r1 and r2.
+/// The form of a tag, and its registers r1 and r2.
 #[inline]
-pub const fn registers_of(tag: i64) -> (i64, i64) {
-    let registers = (tag - TAG_LEAST_INSTRUCTION) % REGISTER_PAIRS;
-    (registers / REGISTERS, registers % REGISTERS)
+pub const fn split(tag: i64) -> (Form, (i64, i64)) {
+    let number = tag - TAG_LEAST_INSTRUCTION;
+    let (form, registers) = (number / REGISTER_PAIRS, number % REGISTER_PAIRS);
+    let form = Form { op: form / (MODES * MODES), m1: form / MODES % MODES, m2: form % MODES };
+    (form, (registers / REGISTERS, registers % REGISTERS))
 }
 
 /// An operand: mode, register, number.

@@ -11,6 +11,7 @@ pub mod op;
 pub mod refusal;
 pub mod reg;
 pub mod row;
+pub mod runner;
 pub mod sr;
 pub mod stop;
 

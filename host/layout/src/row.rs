@@ -2,7 +2,7 @@
 
 use crate::cell::{self, Cell};
 
-/// The row's length.
+/// Numbers in a row.
 pub const ROW: usize = 16;
 
 pub type Row = [i64; ROW];

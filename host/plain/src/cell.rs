@@ -1,10 +1,10 @@
 //! Which cells there are: operands by operation, cost, and what is not damaged.
 
 use layout::cell::{EMPTY, TAG_EMPTY, TAG_LEAST_INSTRUCTION, TAG_WORD};
-use layout::form::registers_of;
+use layout::form::{Form, split};
 use layout::limit::ADDRESS_LAST;
 use layout::op::OPERATIONS;
-use layout::{Cell, Form, mode};
+use layout::{Cell, mode};
 
 /// Operand kinds by operation: for each of the two operands the modes it takes, as bits 1 << mode.
 const NONE: u8 = 1 << mode::NO;
@@ -68,9 +68,8 @@ pub struct Operand {
     pub number: i64,
 }
 
-#[inline]
 pub fn decode([tag, first, second]: Cell) -> Decoded {
-    let (Form { op, m1, m2 }, (r1, r2)) = (Form::of_tag(tag), registers_of(tag));
+    let (Form { op, m1, m2 }, (r1, r2)) = split(tag);
     Decoded {
         op,
         x: Operand { mode: m1, reg: r1, number: first },

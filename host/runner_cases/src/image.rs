@@ -1,5 +1,6 @@
 //! An image, its lines, and what the runner prints of a run.
 
+use layout::runner::{BUDGET, CELLS, OUTPUT, QUEUE};
 use layout::{Cell, ROW, Row, at, cell, limit, refusal, row};
 
 use crate::Case;
@@ -36,8 +37,6 @@ pub fn refused(line: u64) -> String {
     format!("refused,{},{line}\n", refusal::LINE)
 }
 
-const BUDGET: u32 = 100_000;
-
 fn row_of(image: &Image) -> Row {
     let mut row = [0; ROW];
     [row[at::PC], row[at::SP], row[at::SR]] = image.start;
@@ -55,7 +54,7 @@ fn cells_of(image: &Image, count: usize) -> Vec<i64> {
 /// A program that touches no cell from 2,048 on: the judge's 10,000 cells give the same run.
 pub fn judged(image: &Image) -> Case {
     let mut judge =
-        judge::Judge::new(&cells_of(image, limit::CELLS_MOST), &[0; 256], &[0; 4_096], &row_of(image));
+        judge::Judge::new(&cells_of(image, limit::CELLS_MOST), &[0; QUEUE], &[0; OUTPUT], &row_of(image));
     let ran = judge.run(BUDGET);
     let due = seven_lines([ran.stop, ran.detail, ran.steps], judge.row());
     assert!(due == at_the_edge(image).due, "the plain interpreter differs on\n{}", image.lines());
@@ -64,7 +63,7 @@ pub fn judged(image: &Image) -> Case {
 
 /// A program that meets the end of 2,048 cells, which the original does not have: the plain interpreter answers.
 pub fn at_the_edge(image: &Image) -> Case {
-    let (mut cells, mut row) = (cells_of(image, 2_048), row_of(image));
-    let ran = plain::run(&mut cells, &mut [0; 256], &mut [0; 4_096], &mut row, BUDGET);
+    let (mut cells, mut row) = (cells_of(image, CELLS), row_of(image));
+    let ran = plain::run(&mut cells, &mut [0; QUEUE], &mut [0; OUTPUT], &mut row, BUDGET);
     Case { input: image.lines().into_bytes(), due: seven_lines([ran.stop, ran.detail, ran.steps], &row) }
 }

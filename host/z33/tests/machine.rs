@@ -1,5 +1,6 @@
 //! The wrapper: what each call answers, each refusal and stop by its name and as it prints, and buffers as `Vec` and slices.
 
+use layout::{at, row};
 use z33::{Cell, Exception, Machine, ROW_LENGTH, Ran, Refusal, Register, SUPERVISOR, Stop, lent};
 
 const RESET: Cell = Cell::Instruction { tag: 20702, first: 0, second: 0 };
@@ -39,7 +40,7 @@ fn sizes_are_refused_by_name() {
 fn each_refusal_has_its_number_and_words() {
     let mut row = vec![0; ROW_LENGTH];
     let mut damaged = [0; ROW_LENGTH];
-    damaged[..3].copy_from_slice(&[1, 2, 3]);
+    row::put_cell(&mut damaged, at::A, [1, 2, 3]);
     let mut cells = vec![0; 768];
     let mut m = machine(&[RESET]);
     let refusals = [
@@ -66,7 +67,7 @@ fn each_refusal_has_its_number_and_words() {
         let refusal = answer.unwrap_err();
         assert_eq!((refusal.number(), refusal.to_string().as_str()), (number, words));
     }
-    row[15] = 3;
+    row[at::OUTPUT_COUNT] = 3;
     let refusal = lent::drain(&[1, 2, 3], &mut row, &mut [0; 2]).unwrap_err();
     assert_eq!((refusal, refusal.number()), (Refusal::Drain, 7));
     assert_eq!(Refusal::Code.number(), 11);
@@ -134,7 +135,7 @@ fn each_stop_has_its_number_and_words() {
     assert_eq!(ran.stop.to_string(), "a word or address that the instruction cannot take");
     assert_eq!((Stop::CyclesFull.number(), Stop::CyclesFull.to_string().as_str()), (7, "cycle count full"));
     let mut row = vec![0; ROW_LENGTH];
-    row[9] = i64::MAX;
+    row[at::CYCLES] = i64::MAX;
     let mut cells = [NOP.numbers(); 256].concat();
     assert_eq!(lent::run(&mut cells, &mut [0], &mut [], &mut row, 1).unwrap().stop, Stop::CyclesFull);
 }
