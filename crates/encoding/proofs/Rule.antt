@@ -96,11 +96,6 @@ mode-small (suc (suc (suc (suc zero)))) = omega arith
 mode-small (suc (suc (suc (suc (suc zero))))) = omega arith
 mode-small (suc (suc (suc (suc (suc (suc m)))))) = omega arith
 
-pub beyond : (l : List ℕ) (n : ℕ) → length l ≤ n → 0 ≡ getD l n 0
-beyond [] n h = refl
-beyond (x ∷ l) zero h = absurd (omega arith)
-beyond (x ∷ l) (suc n) h = beyond l n (omega arith)
-
 pub cost-legal : (o m₁ m₂ : ℕ) → legal o m₁ m₂ ≡ true → 1 + modeCost m₁ + modeCost m₂ ≡ cost o m₁ m₂
 unfolding cost
 cost-legal o m₁ m₂ h = rw h

@@ -1,5 +1,5 @@
-// Which forms are instructions, and what each costs: one number an operation and one a mode. They stand in a match, which the compiler makes a read-only
-// table once; a constant array would be built anew where it is named.
+// Which forms are instructions, and what each costs: one number an operation and one a mode. They stand in a match, whose last arm is
+// the last of them: the compiler makes it one read-only table, or a test. A constant array would be built anew where it is named.
 ghost use mathlib.Core.Path.{_≡_};
 ghost use mathlib.Core.Bool.{true};
 ghost use Prim.Native.Nat.{_+_, _<_};
@@ -10,6 +10,7 @@ ghost use Rattle.encoding.specs.Forms.{operations, has};
 
 // An operation's number: bit m is set where the first operand may have mode m, bit 6 + m where the second may.
 fn operation(op: u32) -> u32
+    requires { ⌜ op < 33 ⌝ }
     ensures { λ r. ⌜ r ≡ getD operations op 0 ⌝ }
 {
     match op {
@@ -45,13 +46,13 @@ fn operation(op: u32) -> u32
         29 => 318,
         30 => 316,
         31 => 65,
-        32 => 318,
-        _ => 0,
+        _ => 318,
     }
 }
 
 // A mode's number: the cycles that an operand of it adds.
 fn mode(m: u32) -> u64
+    requires { ⌜ m < 6 ⌝ }
     ensures { λ r. ⌜ r ≡ modeCost m ⌝ }
 {
     match m {
@@ -60,8 +61,7 @@ fn mode(m: u32) -> u64
         2 => 0,
         3 => 1,
         4 => 1,
-        5 => 1,
-        _ => 0,
+        _ => 1,
     }
 }
 

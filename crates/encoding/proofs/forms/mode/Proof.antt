@@ -1,11 +1,7 @@
 use mathlib.Core.Path.{_≡_, sym, ap}
-use Prim.Native.Nat.{ℕ}
 use native.Mathlib.Omega.{arith}
-use lib.ListN.{getD, length}
-use mathlib.Core.List.{[], _∷_}
 use Rattle.word.proofs.Arms.{past}
 use Rattle.definition.specs.Arguments.{modeCost}
-use Rattle.encoding.proofs.Rule.{beyond}
 use Rattle.encoding.proofs.forms.mode.Statement.{statement}
 use Rattle.encoding.proofs.forms.mode.Tie as tie
 
@@ -31,11 +27,11 @@ returns-5 c = sym (ap modeCost (c .match .keys5))
 
 returns-6 : tie.Need-returns-6
 unfolding modeCost
-returns-6 c = sym (ap modeCost (c .match .keys6))
-
-returns-7 : tie.Need-returns-7
-unfolding modeCost
-returns-7 c = beyond (0 ∷ 0 ∷ 0 ∷ 1 ∷ 1 ∷ 1 ∷ []) (c .before .args .m) (past (Unit {0}) 0 (c .before .args .m) 6 (omega arith) (c .match .rest))
+returns-6 c = let a = c .before .args .m in
+    let h = c .before .pre in
+    let p = past (Unit {0}) 0 a 5 (omega arith) (c .match .rest) in
+    let e : a ≡ 5 = omega arith in
+    sym (ap modeCost e)
 
 pub mode-spec : {M : Type 1} → statement M
 mode-spec =
@@ -46,5 +42,4 @@ mode-spec =
     returns-3
     returns-4
     returns-5
-    returns-6
-    returns-7)
+    returns-6)

@@ -1,10 +1,9 @@
 use mathlib.Core.Path.{_≡_, sym, ap}
 use Prim.Native.Nat.{ℕ}
 use native.Mathlib.Omega.{arith}
-use lib.ListN.{getD, length}
+use lib.ListN.{getD}
 use Rattle.word.proofs.Arms.{past}
 use Rattle.encoding.specs.Forms.{operations}
-use Rattle.encoding.proofs.Rule.{beyond}
 use Rattle.encoding.proofs.forms.operation.Statement.{statement}
 use Rattle.encoding.proofs.forms.operation.Tie as tie
 
@@ -138,11 +137,11 @@ returns-32 c = sym (ap (λ (n : ℕ). getD operations n 0) (c .match .keys32))
 
 returns-33 : tie.Need-returns-33
 unfolding operations
-returns-33 c = sym (ap (λ (n : ℕ). getD operations n 0) (c .match .keys33))
-
-returns-34 : tie.Need-returns-34
-unfolding operations
-returns-34 c = beyond operations (c .before .args .op) (past (Unit {0}) 0 (c .before .args .op) 33 (omega arith) (c .match .rest))
+returns-33 c = let a = c .before .args .op in
+    let h = c .before .pre in
+    let p = past (Unit {0}) 0 a 32 (omega arith) (c .match .rest) in
+    let e : a ≡ 32 = omega arith in
+    sym (ap (λ (n : ℕ). getD operations n 0) e)
 
 pub operation-spec : {M : Type 1} → statement M
 operation-spec =
@@ -180,5 +179,4 @@ operation-spec =
     returns-30
     returns-31
     returns-32
-    returns-33
-    returns-34)
+    returns-33)
