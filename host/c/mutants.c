@@ -45,8 +45,19 @@ enum {
     RAISE_KEEPS_I             /* raise: code 0 leaves I set */
 };
 
-enum { PC = 6, SP = 7, SR = 8, CYCLES = 9, ENABLE = 10, PENDING = 12, START = 13, COUNT = 14, WRITTEN = 15, ROW = 16 };
-enum { I = 256, HANDLER = 200 };
+enum {
+    PC = Z33_ROW_PC,
+    SP = Z33_ROW_SP,
+    SR = Z33_ROW_SR,
+    CYCLES = Z33_ROW_CYCLES,
+    ENABLE = Z33_ROW_ENABLE,
+    PENDING = Z33_ROW_PENDING,
+    START = Z33_ROW_QUEUE_START,
+    COUNT = Z33_ROW_QUEUE_COUNT,
+    WRITTEN = Z33_ROW_OUTPUT_COUNT,
+    ROW = Z33_ROW_LENGTH
+};
+enum { I = Z33_SR_INTERRUPT_ENABLE, HANDLER = Z33_INTERRUPT_HANDLER };
 
 z33_done whole_z33_fresh(int64_t *, size_t, int64_t *, size_t);
 z33_ran whole_z33_run(int64_t *, size_t, uint8_t *, size_t, uint8_t *, size_t, int64_t *, size_t, uint32_t);

@@ -3,10 +3,11 @@ use definition::Cell;
 use definition::Done;
 ghost use mathlib.Core.Path.{_≡_};
 ghost use lib.ListN.{length};
+ghost use Rattle.definition.specs.Constants.{ROW};
 ghost use Rattle.definition.specs.Calls.{called, setRegister, withRegister};
 
 pub fn put_register(row: &mut [i64], r: u64, w: i64)
-    requires { ⌜ length (now row) ≡ 16 ⌝ }
+    requires { ⌜ length (now row) ≡ ROW ⌝ }
     ensures { λ d. ⌜ now (row .exit) ≡ withRegister r w (now (row .entry)) ⌝ }
 {
     let v = Cell {

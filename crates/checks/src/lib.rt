@@ -5,6 +5,7 @@ ghost use mathlib.Core.Bool.{cond};
 ghost use Prim.Native.Nat.{_+_, _<_, _≤_};
 ghost use lib.IntN.{pos};
 ghost use lib.ListN.{length, getD, drop};
+ghost use Rattle.definition.specs.Constants.{ROW};
 ghost use Rattle.definition.specs.Word.{addressOf};
 ghost use Rattle.definition.specs.Memory.{cell};
 ghost use Rattle.definition.specs.Encoding.{sound, isAddress};
@@ -96,7 +97,7 @@ pub fn sound_at(row: &[i64], i: usize) -> bool
 
 // "4. [...] its number at this place (from 1, the lowest such) is out of range": places 11 to 16.
 pub fn console_numbers(row: &[i64], q: usize, o: usize) -> Done
-    requires { ⌜ (length (now row) ≡ 16) × ((q ≤ 4096) × (o ≤ 65536)) ⌝ }
+    requires { ⌜ (length (now row) ≡ ROW) × ((q ≤ 4096) × (o ≤ 65536)) ⌝ }
     ensures { λ r. ⌜ r ≡ verdict (drop 6 (rowTests q o (now (row .entry)))) ⌝ }
 {
     let d = check(below_at(row, 15, o as u64 + 1), 4, 16, accept());
@@ -109,7 +110,7 @@ pub fn console_numbers(row: &[i64], q: usize, o: usize) -> Done
 
 // "a damaged a or b counts at place 1 or 4": the whole row, if it is 16 long.
 pub fn row_numbers(row: &[i64], q: usize, o: usize) -> Done
-    requires { ⌜ (length (now row) ≡ 16) × ((q ≤ 4096) × (o ≤ 65536)) ⌝ }
+    requires { ⌜ (length (now row) ≡ ROW) × ((q ≤ 4096) × (o ≤ 65536)) ⌝ }
     ensures { λ r. ⌜ r ≡ verdict (drop 1 (rowTests q o (now (row .entry)))) ⌝ }
 {
     let d = check(

@@ -10,9 +10,12 @@ ghost use Prim.Native.Nat.{ℕ, _<_, _≤_, _^_};
 ghost use lib.ListN.{length};
 ghost use Rattle.definition.specs.Memory.{cellCount};
 ghost use Rattle.definition.specs.Runtime.{limit, settle, step, run};
-ghost use Rattle.definition.proofs.Row.{AcceptedMachine};
+ghost use Rattle.definition.specs.Accepted.{AcceptedMachine};
 ghost use Rattle.runtime.specs.Meaning.{machineAt, outcomeAt, concluded};
 ghost use Rattle.computer.specs.Meaning.{NEAR, quiet, endedOf};
+
+// "0 budget spent"
+const BUDGET_SPENT: u32 = 0;
 
 // Where a step got: completed, or a stop with its detail.
 pub struct Stepped {
@@ -172,7 +175,7 @@ pub fn run(cells: &mut [i64], queue: &[u8], output: &mut [u8], m: State, budget:
         }
     }
     Ended {
-        stop: 0,
+        stop: BUDGET_SPENT,
         detail: 0,
         steps,
         m: t,

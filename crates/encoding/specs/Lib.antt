@@ -1,3 +1,3 @@
 pub mod Table
 pub mod Forms
-pub mod Instr
+pub mod Meaning

@@ -13,7 +13,7 @@ ghost use Rattle.definition.specs.Word.{addressOf};
 ghost use Rattle.definition.specs.Memory.{cellAt};
 ghost use Rattle.definition.specs.Encoding.{legal, opNumber, mode₁, mode₂, decode, registerFits, isAddress, numberFits, soundInstruction, soundAt, sound};
 ghost use Rattle.definition.specs.Calls.{lowestDamaged};
-ghost use Rattle.encoding.specs.Instr.{instrOf};
+ghost use Rattle.encoding.specs.Meaning.{instrOf};
 
 // An instruction as it is executed.
 pub struct Instr {

@@ -17,20 +17,21 @@ use Rattle.definition.specs.declared.Error.the-variants.{PrivilegedInstruction,
 use Rattle.definition.specs.Constants.{ZERO, NEGATIVE, CELLS-MOST}
 use Rattle.definition.specs.Word.{bit}
 use Rattle.definition.specs.Memory.{cellCount, get, extractWord, extractAddress}
+use Rattle.definition.specs.Registers as R
 use Rattle.definition.specs.Registers.{Reg, regAt, getReg, putReg, supervisor, with-pc, with-sp, with-sr}
 use Rattle.definition.specs.Arguments.{Operand}
-use Rattle.definition.specs.Computer.{Core, Exec, core, ok, err, andThen, branch, return, orWord, orAddress, orCell, orPut, pop, checkPrivileged}
+use Rattle.definition.specs.Exec.{Core, Exec, core, ok, err, andThen, branch, return, orWord, orAddress, orCell, orPut, pop, checkPrivileged}
 use Rattle.definition.specs.Encoding.{opAt}
 use Rattle.definition.specs.Instructions.{execute, jump, jumpIf, rtn, popOp, ld, rti, reset, nothing, reads, writes, quiet, inOp, outOp}
 use Rattle.memory.proofs.Laws.{get-here}
 use Rattle.registers.specs.declared.Put.{Put}
-use Rattle.registers.specs.Answer.{result, answer, putRes}
+use Rattle.registers.specs.Meaning.{settled, result, answer, putRes}
 use Rattle.arguments.specs.declared.Arg.{Arg}
 use Rattle.arguments.specs.By.{argOf, extractBy}
 use Rattle.arguments.proofs.Laws.{resolve-by, extract-by, word-by}
 use Rattle.stores.specs.declared.Made.{Made}
 use Rattle.instructions.specs.Jumps.{testAt}
-use Rattle.stores.specs.Plan.{coreOf, made, madeRes, unwritten}
+use Rattle.stores.specs.Meaning.{coreOf, made, madeRes, unwritten}
 use Rattle.stores.proofs.Laws.{foundAddress, foundWord, made-none}
 use Rattle.instructions.specs.Meaning.{asker, rtiSr}
 
@@ -121,6 +122,11 @@ jumps-left o h a n =
     (past (Unit {0}) 6 o 1 (past (Unit {0}) 0 o 6 (omega arith) (from-14 .1)) (tt, not-in asker o 6 a refl), from-14 .0)
 
 -- sp after a read there is still a u32
+-- a register that refuses leaves the registers that it was asked of
+pub refused-is : (s : Registers) (p : R.Put) (q : Put) → q ≡ settled s p → q .ok ≡ false → settled s (R.refused (q .error)) ≡ settled s p
+refused-is s (R.assigned t) q e f = absurd (true≢false (sym (ap (λ (x : Put). x .ok) e) ∙ f))
+refused-is s (R.refused x) q e f = ap (λ (y : Put). settled s (R.refused (y .error))) e
+
 pub sp-fits : (l : List ℤ) (n : ℕ) (v : Cell) → cellCount l ≤ CELLS-MOST → get l n ≡ Here v → n < 10000
 sp-fits l n v h e = omega (arith, ltb-true n (cellCount l) (get-here l n v e))
 

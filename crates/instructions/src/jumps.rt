@@ -10,9 +10,9 @@ ghost use Prim.Native.Nat.{_-_};
 ghost use lib.IntN.{ℤ};
 ghost use Rattle.definition.specs.Constants.{ZERO, NEGATIVE};
 ghost use Rattle.definition.specs.Word.{bit};
-ghost use Rattle.definition.specs.Computer.{core, branch, return};
+ghost use Rattle.definition.specs.Exec.{core, branch, return};
 ghost use Rattle.definition.specs.Instructions.{jump, reset};
-ghost use Rattle.registers.specs.Answer.{putRes};
+ghost use Rattle.registers.specs.Meaning.{putRes};
 ghost use Rattle.arguments.specs.By.{argOf};
 ghost use Rattle.instructions.specs.Jumps.{testAt};
 

@@ -13,12 +13,12 @@ ghost use lib.IntN.{ℤ};
 ghost use Rattle.definition.specs.Constants.{CELLS-MOST};
 ghost use Rattle.definition.specs.Memory.{cellCount};
 ghost use Rattle.definition.specs.Registers.{regAt};
-ghost use Rattle.definition.specs.Computer.{core};
+ghost use Rattle.definition.specs.Exec.{core};
 ghost use Rattle.definition.specs.Encoding.{opAt};
 ghost use Rattle.definition.specs.Instructions.{execute, nothing, reads, writes, inOp, outOp};
-ghost use Rattle.registers.specs.Answer.{result};
+ghost use Rattle.registers.specs.Meaning.{result};
 ghost use Rattle.arguments.specs.By.{argOf};
-ghost use Rattle.stores.specs.Plan.{made};
+ghost use Rattle.stores.specs.Meaning.{made};
 ghost use Rattle.instructions.specs.Meaning.{asker};
 
 pub mod jumps;

@@ -11,9 +11,9 @@ ghost use Prim.Native.Nat.{_≤_};
 ghost use Rattle.definition.specs.Constants.{CELLS-MOST};
 ghost use Rattle.definition.specs.Memory.{cellCount};
 ghost use Rattle.definition.specs.Registers.{regAt};
-ghost use Rattle.definition.specs.Computer.{core};
+ghost use Rattle.definition.specs.Exec.{core};
 ghost use Rattle.definition.specs.Instructions.{ld, popOp, rtn, rti};
-ghost use Rattle.registers.specs.Answer.{putRes};
+ghost use Rattle.registers.specs.Meaning.{putRes};
 ghost use Rattle.arguments.specs.By.{argOf};
 ghost use Rattle.instructions.specs.Meaning.{rtiSr};
 
@@ -35,7 +35,14 @@ pub fn pop(cells: &[i64], s: Registers, r: u32) -> Put
         Found::Here(v) => {
             let mut t = s;
             t.sp = s.sp + 1;
-            registers::put_reg(t, r, v)
+            let q = registers::put_reg(t, r, v);
+            let ok = q.ok;
+            if ok {
+                q
+            } else {
+                let error = q.error;
+                registers::refuse(t, error)
+            }
         }
         Found::Outside => registers::refuse(s, Error::InvalidMemoryAccess),
     }

@@ -13,10 +13,10 @@ use Rattle.definition.specs.Memory.{extractWord}
 use Rattle.definition.specs.Registers as R
 use Rattle.definition.specs.Registers.{Reg, regAt, getReg, assigned, refused}
 use Rattle.definition.specs.Arguments.{Operand, operandWord}
-use Rattle.definition.specs.Computer.{core, ok, err, andThen, orWord, orPut}
+use Rattle.definition.specs.Exec.{core, ok, err, andThen, orWord, orPut}
 use Rattle.definition.specs.Instructions.{andFlags, putResult, putWrapped, putShifted, words, neg, notOp}
 use Rattle.registers.specs.declared.Put.{Put}
-use Rattle.registers.specs.Answer.{settled, putRes}
+use Rattle.registers.specs.Meaning.{settled, putRes}
 use Rattle.registers.proofs.Laws.{settled-is}
 use Rattle.arguments.specs.declared.Arg.{Arg}
 use Rattle.arguments.specs.By.{argOf, wordBy}

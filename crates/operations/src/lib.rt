@@ -9,7 +9,7 @@ ghost use mathlib.Core.Path.{_≡_};
 ghost use Rattle.definition.specs.Word.{shlW, shrW};
 ghost use Rattle.definition.specs.Registers.{regAt};
 ghost use Rattle.definition.specs.Instructions.{signFlags, putResult, putWrapped, putCompared, putQuotient, putShifted};
-ghost use Rattle.registers.specs.Answer.{settled};
+ghost use Rattle.registers.specs.Meaning.{settled};
 ghost use Rattle.operations.specs.Both.{bothOf};
 
 pub mod words;

@@ -9,9 +9,9 @@ ghost use mathlib.Core.List.{List};
 ghost use lib.IntN.{ℤ, _+ℤ_, _-ℤ_, _*ℤ_};
 ghost use Rattle.definition.specs.Word.{wrapped, quotient, shlW, shrW, andW, orW, xorW};
 ghost use Rattle.definition.specs.Registers.{regAt};
-ghost use Rattle.definition.specs.Computer.{core};
+ghost use Rattle.definition.specs.Exec.{core};
 ghost use Rattle.definition.specs.Instructions.{words, putResult, putWrapped, putCompared, putQuotient, putShifted, neg, notOp};
-ghost use Rattle.registers.specs.Answer.{putRes};
+ghost use Rattle.registers.specs.Meaning.{putRes};
 ghost use Rattle.arguments.specs.By.{argOf};
 
 pub fn add(cells: &[i64], s: Registers, x: Arg, r: u32) -> Put

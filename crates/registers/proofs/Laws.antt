@@ -7,8 +7,8 @@ use lib.IntN.{ℤ}
 use Rattle.definition.specs.declared.Registers.{Registers}
 use Rattle.definition.specs.Registers as R
 use Rattle.definition.specs.Registers.{A, regAt}
-use Rattle.definition.specs.Computer.{core, orPut, below}
-use Rattle.registers.specs.Answer.{settled, putRes}
+use Rattle.definition.specs.Exec.{core, orPut, below}
+use Rattle.registers.specs.Meaning.{settled, putRes}
 
 -- a register's number, and any number past 4 is a
 pub reg-is : (n k : ℕ) → n ≡ k → regAt k ≡ regAt n

@@ -8,13 +8,15 @@ ghost use mathlib.Core.List.{[]};
 ghost use Prim.Native.Nat.{_+_, _<_, _^_};
 ghost use lib.IntN.{pos, natAbs};
 ghost use lib.ListN.{length, getD, set};
+ghost use Rattle.definition.specs.Constants.{ROW, ROW-PC, ROW-SP, ROW-SR, ROW-CYCLES, ROW-ENABLE, ROW-FLAG, ROW-PENDING, ROW-START, ROW-COUNT, ROW-WRITTEN};
 ghost use Rattle.definition.specs.Word.{eqZ};
 ghost use Rattle.definition.specs.Memory.{cell};
-ghost use Rattle.definition.specs.Calls.{at, mark, rowOf, deliveredRow};
-ghost use Rattle.definition.specs.Computer.{core};
+ghost use Rattle.definition.specs.Calls.{at, put, mark, rowOf, deliveredRow};
+ghost use Rattle.definition.specs.Accepted.{Below};
+ghost use Rattle.definition.specs.Exec.{core};
 ghost use Rattle.definition.specs.Runtime.{machine};
-ghost use Rattle.console.specs.State.{consoleOf};
-ghost use Rattle.row.specs.Row.{Below, registersOf, marksOf, stateOf};
+ghost use Rattle.console.specs.Meaning.{consoleOf};
+ghost use Rattle.row.specs.Meaning.{registersOf, marksOf, stateOf};
 
 pub fn number_at(row: &[i64], i: usize) -> u64
     requires { ⌜ i < length (now row) ⌝ }
@@ -44,7 +46,7 @@ pub fn cell_at(row: &[i64], i: usize) -> Cell
 }
 
 pub fn registers(row: &[i64]) -> Registers
-    requires { ⌜ (length (now row) ≡ 16) × (Below (2 ^ 32) (at 7 (now row)) × Below (2 ^ 32) (at 8 (now row))) ⌝ }
+    requires { ⌜ (length (now row) ≡ ROW) × (Below (2 ^ 32) (at ROW-PC (now row)) × Below (2 ^ 32) (at ROW-SP (now row))) ⌝ }
     ensures { λ r. ⌜ r ≡ registersOf (now (row .entry)) ⌝ }
 {
     let sr = row[8];
@@ -58,7 +60,7 @@ pub fn registers(row: &[i64]) -> Registers
 }
 
 pub fn marks(row: &[i64]) -> Marks
-    requires { ⌜ length (now row) ≡ 16 ⌝ }
+    requires { ⌜ length (now row) ≡ ROW ⌝ }
     ensures { λ r. ⌜ r ≡ marksOf (now (row .entry)) ⌝ }
 {
     Marks {
@@ -69,7 +71,7 @@ pub fn marks(row: &[i64]) -> Marks
 }
 
 pub fn console_state(row: &[i64]) -> ConsoleState
-    requires { ⌜ length (now row) ≡ 16 ⌝ }
+    requires { ⌜ length (now row) ≡ ROW ⌝ }
     ensures { λ r. ⌜ r ≡ stateOf (now (row .entry)) ⌝ }
 {
     ConsoleState {
@@ -107,8 +109,8 @@ pub fn put_cell(row: &mut [i64], i: usize, v: Cell)
 
 // pc, sp, sr and cycles.
 pub fn put_numbers(row: &mut [i64], s: Registers, cycles: u64)
-    requires { ⌜ (length (now row) ≡ 16) × (cycles < 2 ^ 63) ⌝ }
-    ensures { λ r. ⌜ now (row .exit) ≡ set (set (set (set (now (row .entry)) 6 (pos (s .pc))) 7 (pos (s .sp))) 8 (s .sr)) 9 (pos cycles) ⌝ }
+    requires { ⌜ (length (now row) ≡ ROW) × (cycles < 2 ^ 63) ⌝ }
+    ensures { λ r. ⌜ now (row .exit) ≡ put ROW-CYCLES (pos cycles) (put ROW-SR (s .sr) (put ROW-SP (pos (s .sp)) (put ROW-PC (pos (s .pc)) (now (row .entry))))) ⌝ }
 {
     let pc = s.pc as i64;
     let sp = s.sp as i64;
@@ -121,8 +123,8 @@ pub fn put_numbers(row: &mut [i64], s: Registers, cycles: u64)
 }
 
 pub fn put_marks(row: &mut [i64], k: Marks)
-    requires { ⌜ length (now row) ≡ 16 ⌝ }
-    ensures { λ r. ⌜ now (row .exit) ≡ set (set (set (now (row .entry)) 10 (mark (k .enable))) 11 (mark (k .flag))) 12 (mark (k .pending)) ⌝ }
+    requires { ⌜ length (now row) ≡ ROW ⌝ }
+    ensures { λ r. ⌜ now (row .exit) ≡ put ROW-PENDING (mark (k .pending)) (put ROW-FLAG (mark (k .flag)) (put ROW-ENABLE (mark (k .enable)) (now (row .entry)))) ⌝ }
 {
     let enable = mark_number(k.enable);
     let flag = mark_number(k.flag);
@@ -133,8 +135,8 @@ pub fn put_marks(row: &mut [i64], k: Marks)
 }
 
 pub fn put_console(row: &mut [i64], k: ConsoleState)
-    requires { ⌜ (length (now row) ≡ 16) × ((k .start < 2 ^ 63) × ((k .count < 2 ^ 63) × (k .written < 2 ^ 63))) ⌝ }
-    ensures { λ r. ⌜ now (row .exit) ≡ set (set (set (now (row .entry)) 13 (pos (k .start))) 14 (pos (k .count))) 15 (pos (k .written)) ⌝ }
+    requires { ⌜ (length (now row) ≡ ROW) × ((k .start < 2 ^ 63) × ((k .count < 2 ^ 63) × (k .written < 2 ^ 63))) ⌝ }
+    ensures { λ r. ⌜ now (row .exit) ≡ put ROW-WRITTEN (pos (k .written)) (put ROW-COUNT (pos (k .count)) (put ROW-START (pos (k .start)) (now (row .entry)))) ⌝ }
 {
     let start = k.start as i64;
     let count = k.count as i64;
@@ -146,7 +148,7 @@ pub fn put_console(row: &mut [i64], k: ConsoleState)
 
 // The whole row anew.
 pub fn write_row(row: &mut [i64], s: Registers, cycles: u64, k: ConsoleState)
-    requires { ⌜ (length (now row) ≡ 16) × ((cycles < 2 ^ 63) × ((k .start < 2 ^ 63) × ((k .count < 2 ^ 63) × (k .written < 2 ^ 63)))) ⌝ }
+    requires { ⌜ (length (now row) ≡ ROW) × ((cycles < 2 ^ 63) × ((k .start < 2 ^ 63) × ((k .count < 2 ^ 63) × (k .written < 2 ^ 63)))) ⌝ }
     ensures { λ r. ⌜ now (row .exit) ≡ rowOf (machine (core [] s) cycles (consoleOf k [] [])) ⌝ }
 {
     let a = s.a;
@@ -161,7 +163,7 @@ pub fn write_row(row: &mut [i64], s: Registers, cycles: u64, k: ConsoleState)
 
 // The row after n bytes were delivered.
 pub fn put_delivered(row: &mut [i64], n: usize)
-    requires { ⌜ (length (now row) ≡ 16) × (natAbs (at 15 (now row)) + n < 2 ^ 63) ⌝ }
+    requires { ⌜ (length (now row) ≡ ROW) × (natAbs (at ROW-COUNT (now row)) + n < 2 ^ 63) ⌝ }
     ensures { λ r. ⌜ now (row .exit) ≡ deliveredRow n (now (row .entry)) ⌝ }
 {
     let k = marks::input_pushed(marks(row), n);

@@ -19,17 +19,17 @@ use Rattle.definition.specs.Memory.{word, empty, cellCount, get, extractWord, a
 use Rattle.definition.specs.Registers as R
 use Rattle.definition.specs.Registers.{Reg, regAt, getReg, putReg, assigned, refused, with-pc, with-sp}
 use Rattle.definition.specs.Arguments.{operand, resolve}
-use Rattle.definition.specs.Computer.{core, ok, err, andThen, branch, orWord, orAddress, orCell, orPut, write, push, below}
+use Rattle.definition.specs.Exec.{core, ok, err, andThen, branch, orWord, orAddress, orCell, orPut, write, push, below}
 use Rattle.definition.specs.Instructions.{jump, call, pushOp, st, fas, swapBack, swap, nothing}
 use Rattle.memory.specs.Overlay.{overlay}
 use Rattle.memory.proofs.Laws.{get-here, over-in, over-none}
 use Rattle.registers.specs.declared.Put.{Put}
-use Rattle.registers.specs.Answer.{settled, answer, putRes}
+use Rattle.registers.specs.Meaning.{settled, answer, putRes}
 use Rattle.arguments.specs.declared.Arg.{Arg}
 use Rattle.arguments.specs.By.{argOf, resolveBy, extractBy, wordBy}
 use Rattle.arguments.proofs.Laws.{resolve-by, extract-by, word-by}
 use Rattle.stores.specs.declared.Made.{Made}
-use Rattle.stores.specs.Plan.{planned, coreOf, made, madeRes, unwritten}
+use Rattle.stores.specs.Meaning.{planned, coreOf, made, madeRes, unwritten}
 
 -- what the code finds for an operand
 abbrev pub foundAddress : Arg → Registers → Address
@@ -37,6 +37,10 @@ foundAddress x s = resolveBy (x .mode) (getReg (regAt (x .reg)) s) (x .number)
 
 abbrev pub foundWord : Arg → List ℤ → Registers → Word
 foundWord x l s = wordBy (x .mode) (getReg (regAt (x .reg)) s) (x .number) l
+
+-- the operand was read with the write at n waiting
+pub seen-at : (n m : ℕ) (rc : Cell) (k : ℤ) (v : Cell) (l : List ℤ) {w : Word} → w ≡ wordBy m rc k (overlay n v l) → (p : ℕ) → n ≡ p → w ≡ wordBy m rc k (overlay p v l)
+seen-at n m rc k v l f p e = f ∙ ap (λ (x : ℕ). wordBy m rc k (overlay x v l)) e
 
 -- nothing to be written: the answer is the registers' alone
 module _ (l : List ℤ) (h : cellCount l ≤ CELLS-MOST) where

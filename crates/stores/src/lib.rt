@@ -12,10 +12,10 @@ ghost use Prim.Native.Nat.{_≤_};
 ghost use Rattle.definition.specs.Constants.{CELLS-MOST};
 ghost use Rattle.definition.specs.Memory.{cellCount};
 ghost use Rattle.definition.specs.Registers.{regAt};
-ghost use Rattle.definition.specs.Computer.{core, write, push};
+ghost use Rattle.definition.specs.Exec.{core, write, push};
 ghost use Rattle.definition.specs.Instructions.{call, fas, pushOp, st, swap, swapBack};
 ghost use Rattle.arguments.specs.By.{argOf};
-ghost use Rattle.stores.specs.Plan.{madeRes, written, unwritten};
+ghost use Rattle.stores.specs.Meaning.{madeRes, written, unwritten};
 
 // The registers, and the one cell write that waits: v at `at`, which is outside where there is none.
 pub struct Plan {

@@ -11,15 +11,16 @@ use Rattle.definition.specs.declared.Ran.{Ran}
 use Rattle.definition.specs.declared.Raised.{Raised}
 use Rattle.definition.specs.Constants.{CYCLES-END}
 use Rattle.definition.specs.Memory.{cellCount, empty}
-use Rattle.definition.specs.Computer.{core}
+use Rattle.definition.specs.Exec.{core}
 use Rattle.definition.specs.Io.{Console}
 use Rattle.definition.specs.Runtime as M
 use Rattle.definition.specs.Runtime.{Machine, machine, Run}
 use Rattle.definition.specs.Calls.{machineOf, rowOf, Called, called, passes, Lent, lent, lentMachine, lentOf, runCheck, ran, runRefused, runCall, raiseCheck, quietMachine, raised, raise}
-use Rattle.definition.proofs.Row.{AcceptedMachine, accepted-machine}
+use Rattle.definition.specs.Accepted.{AcceptedMachine}
+use Rattle.definition.proofs.Row.{accepted-machine}
 use Rattle.definition.proofs.Accepted.{call-is, run-ends}
 use Rattle.console.specs.declared.ConsoleState.{ConsoleState}
-use Rattle.console.specs.State.{consoleOf}
+use Rattle.console.specs.Meaning.{consoleOf}
 use Rattle.memory.proofs.Laws.{over-none}
 use Rattle.memory.specs.Overlay.{overlay}
 use Rattle.runtime.specs.declared.State.{State}
@@ -40,6 +41,10 @@ unfolding machineOf
 state-is l q o row = refl
 
 -- ---- run
+
+-- the budget that a run was given is the one that is asked about
+pub on-budget : (n : ℕ) (m : Machine) {r : Run} → r ≡ M.run n m → (b : ℕ) → n ≡ b → r ≡ M.run b m
+on-budget n m f b e = f ∙ ap (λ (k : ℕ). M.run k m) e
 
 module _ (l : List ℤ) (q o : List ℕ) (row : List ℤ) (h : passes (runCheck (lent l q o row)) ≡ true) where
   pub run-accepted : AcceptedMachine (machineAt l q o (rowState row))

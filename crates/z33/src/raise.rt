@@ -42,7 +42,7 @@ pub extern "C" fn z33_raise(cells: &mut [i64], row: &mut [i64], code: u64) -> Ra
 {
     let d = refusals::raise_check(cells, row, code);
     if d.refusal == 0 {
-        let m = super::run::state(row);
+        let m = super::state(row);
         let a = raising(m, code as u32);
         let x = runtime::decide::decide(cells, m, a);
         if x.completed {

@@ -1,4 +1,3 @@
--- `refusals::console_numbers` meets its contract.
 use native.Mathlib.Omega.{arith}
 use native.Mathlib.Numerals.{add-one}
 use mathlib.Core.Path.{ap, _∙_}

@@ -6,7 +6,7 @@ use mathlib.Core.Bool.{Bool}
 use mathlib.Core.Logic.{⊎-elim}
 use lib.ListN.{length}
 use Rattle.definition.specs.Runtime.{run, later, step, Machine}
-use Rattle.definition.proofs.Row.{AcceptedMachine}
+use Rattle.definition.specs.Accepted.{AcceptedMachine}
 use Rattle.runtime.specs.Meaning.{machineAt, outcomeAt}
 use Rattle.computer.specs.Meaning.{NEAR}
 use Rattle.computer.proofs.Laws.{run-start, run-went, run-ended, run-spent, next-accepted}

@@ -1,4 +1,3 @@
--- `encoding::is_sound` meets its contract.
 use mathlib.Core.Path.{_∙_}
 use borrow.Author.Needs.{needs}
 use Rattle.definition.specs.Encoding.{sound}

@@ -1,4 +1,3 @@
--- `encoding::lowest_damaged` meets its contract.
 use mathlib.Core.Path.{_≡_, _∙_, refl, sym, ap}
 use mathlib.Core.Bool.{true, false}
 use Prim.Native.Nat.{_*_, _-_, _<_, _≤_}

@@ -1,10 +1,10 @@
 use mathlib.Core.Path.{sym, _∙_, ap, ap₂}
 use Rattle.definition.specs.Registers.{regAt}
-use Rattle.definition.specs.Computer.{core, return}
+use Rattle.definition.specs.Exec.{core, return}
 use Rattle.definition.specs.Encoding.{opAt}
 use Rattle.definition.specs.Instructions.{execute, jump}
 use Rattle.arguments.specs.By.{argOf}
-use Rattle.registers.specs.Answer.{putRes}
+use Rattle.registers.specs.Meaning.{putRes}
 use Rattle.instructions.specs.Jumps.{testAt}
 use Rattle.instructions.proofs.Laws.{quiet-none, quiet-made, op-is, jump-op, jumps-left, branch-is}
 use borrow.Author.Needs.{needs}

@@ -1,4 +1,3 @@
--- `refusals::fresh_check` meets its contract.
 use mathlib.Core.Path.{_≡_}
 use mathlib.Core.Bool.{Bool, cond}
 use mathlib.Core.List.{List}

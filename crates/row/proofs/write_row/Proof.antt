@@ -1,4 +1,3 @@
--- `row::write_row` meets its contract.
 use lib.IntN.{pos}
 use borrow.Author.Needs.{needs}
 use Rattle.definition.specs.Calls.{rowOf, mark}

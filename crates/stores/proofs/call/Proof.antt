@@ -1,9 +1,9 @@
-use mathlib.Core.Path.{sym, _∙_, ap}
+use mathlib.Core.Path.{refl, sym, _∙_, ap}
 use lib.IntN.{natAbs}
 use Rattle.word.proofs.Laws.{back, address-cast, address-by}
 use Rattle.definition.specs.Memory.{asAddress}
-use Rattle.stores.specs.Plan.{madeRes, written}
-use Rattle.stores.proofs.Laws.{call-yes, call-not, call-no}
+use Rattle.stores.specs.Meaning.{madeRes, written}
+use Rattle.stores.proofs.Laws.{seen-at, call-yes, call-not, call-no}
 use borrow.Author.Needs.{needs}
 use Rattle.stores.proofs.call.Statement.{statement}
 use Rattle.stores.proofs.call.Tie as tie
@@ -58,17 +58,17 @@ with-cell-requires-3 c κs = search needs
 
 returns : tie.Need-returns
 unfolding asAddress
-returns c = let a = c .before .before .before .before .before .before .before .before .before .before .before .before .before .before .before .args in let l = a .cells .now in let d = c .before .before .before .before .before .before .before .before .before .before .before .before .before .push-cell .result in let h = rw (c .before .before .before .before .before .before .before .before .before .before .before .before .before .before .address-cell .ensures) at (c .before .before .before .before .before .before .before .before .before .before .before .before .before .push-cell .ensures) in let t = c .before .before .before .before .before .before .before .before .before .before .before .if1 .taken in let e = rw (c .before .before .before .before .before .before .before .before .get-reg .ensures, back (a .x .number) (c .before .before .before .before .before .before .before .struct-told .given .1 .1 .0 .1)) at (c .before .before .before .before .before .before .word-over .ensures) in let w = c .before .before .before .before .w .given in let f = back (w .0 .0) (c .before .before .before .known-told .given .0 .1) in
+returns c = let a = c .before .before .before .before .before .before .before .before .before .before .before .before .before .before .before .args in let l = a .cells .now in let d = c .before .before .before .before .before .before .before .before .before .before .before .before .before .push-cell .result in let h = rw (c .before .before .before .before .before .before .before .before .before .before .before .before .before .before .address-cell .ensures) at (c .before .before .before .before .before .before .before .before .before .before .before .before .before .push-cell .ensures) in let t = c .before .before .before .before .before .before .before .before .before .before .before .if1 .taken in let e = seen-at _ _ _ _ _ _ (rw (c .before .before .before .before .before .before .before .before .get-reg .ensures, back (a .x .number) (c .before .before .before .before .before .before .before .struct-told .given .1 .1 .0 .1)) at (c .before .before .before .before .before .before .word-over .ensures)) (d .p .at) refl in let w = c .before .before .before .before .w .given in let f = back (w .0 .0) (c .before .before .before .known-told .given .0 .1) in
     ap (madeRes l) (c .with-cell .ensures ∙ ap (written (d .p .at) (d .p .v)) (rw f at (c .before .accept .ensures))) ∙ call-yes l (a .s) (a .x) d h (natAbs (w .0 .0)) t (ap asAddress (sym e ∙ w .1) ∙ sym (address-by (w .0 .0) (rw f at (c .before .before .if2 .taken))))
 
 returns-2 : tie.Need-returns-2
 unfolding asAddress
-returns-2 c = let a = c .before .before .before .before .before .before .before .before .before .before .before .before .before .before .before .args in let l = a .cells .now in let d = c .before .before .before .before .before .before .before .before .before .before .before .before .before .push-cell .result in let h = rw (c .before .before .before .before .before .before .before .before .before .before .before .before .before .before .address-cell .ensures) at (c .before .before .before .before .before .before .before .before .before .before .before .before .before .push-cell .ensures) in let t = c .before .before .before .before .before .before .before .before .before .before .before .if1 .taken in let e = rw (c .before .before .before .before .before .before .before .before .get-reg .ensures, back (a .x .number) (c .before .before .before .before .before .before .before .struct-told .given .1 .1 .0 .1)) at (c .before .before .before .before .before .before .word-over .ensures) in let w = c .before .before .before .before .w .given in let f = back (w .0 .0) (c .before .before .before .known-told .given .0 .1) in
+returns-2 c = let a = c .before .before .before .before .before .before .before .before .before .before .before .before .before .before .before .args in let l = a .cells .now in let d = c .before .before .before .before .before .before .before .before .before .before .before .before .before .push-cell .result in let h = rw (c .before .before .before .before .before .before .before .before .before .before .before .before .before .before .address-cell .ensures) at (c .before .before .before .before .before .before .before .before .before .before .before .before .before .push-cell .ensures) in let t = c .before .before .before .before .before .before .before .before .before .before .before .if1 .taken in let e = seen-at _ _ _ _ _ _ (rw (c .before .before .before .before .before .before .before .before .get-reg .ensures, back (a .x .number) (c .before .before .before .before .before .before .before .struct-told .given .1 .1 .0 .1)) at (c .before .before .before .before .before .before .word-over .ensures)) (d .p .at) refl in let w = c .before .before .before .before .w .given in let f = back (w .0 .0) (c .before .before .before .known-told .given .0 .1) in
     ap (madeRes l) (c .with-cell2 .ensures ∙ ap (written (d .p .at) (d .p .v)) (c .before .refuse .ensures)) ∙ call-not l (a .s) (a .x) d h t (ap asAddress (sym e ∙ w .1) ∙ sym (address-by (w .0 .0) (rw f at (c .before .before .if2 .left))))
 
 returns-3 : tie.Need-returns-3
 unfolding asAddress
-returns-3 c = let a = c .before .before .before .before .before .before .before .before .before .before .before .before .before .args in let l = a .cells .now in let d = c .before .before .before .before .before .before .before .before .before .before .before .push-cell .result in let h = rw (c .before .before .before .before .before .before .before .before .before .before .before .before .address-cell .ensures) at (c .before .before .before .before .before .before .before .before .before .before .before .push-cell .ensures) in let t = c .before .before .before .before .before .before .before .before .before .if1 .taken in let e = rw (c .before .before .before .before .before .before .get-reg .ensures, back (a .x .number) (c .before .before .before .before .before .struct-told .given .1 .1 .0 .1)) at (c .before .before .before .before .word-over .ensures) in
+returns-3 c = let a = c .before .before .before .before .before .before .before .before .before .before .before .before .before .args in let l = a .cells .now in let d = c .before .before .before .before .before .before .before .before .before .before .before .push-cell .result in let h = rw (c .before .before .before .before .before .before .before .before .before .before .before .before .address-cell .ensures) at (c .before .before .before .before .before .before .before .before .before .before .before .push-cell .ensures) in let t = c .before .before .before .before .before .before .before .before .before .if1 .taken in let e = seen-at _ _ _ _ _ _ (rw (c .before .before .before .before .before .before .get-reg .ensures, back (a .x .number) (c .before .before .before .before .before .struct-told .given .1 .1 .0 .1)) at (c .before .before .before .before .word-over .ensures)) (d .p .at) refl in
     ap (madeRes l) (c .with-cell3 .ensures ∙ ap (written (d .p .at) (d .p .v)) (c .before .refuse2 .ensures)) ∙ call-not l (a .s) (a .x) d h t (ap asAddress (sym e ∙ c .before .before .enum-told .given .1))
 
 returns-4 : tie.Need-returns-4

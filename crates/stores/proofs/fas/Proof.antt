@@ -6,9 +6,9 @@ use Rattle.definition.specs.Memory.{word}
 use Rattle.definition.specs.Registers.{regAt}
 use Rattle.memory.specs.Overlay.{overlay}
 use Rattle.registers.specs.declared.Put.{Put}
-use Rattle.registers.specs.Answer.{putRes, result}
+use Rattle.registers.specs.Meaning.{putRes, result}
 use Rattle.registers.proofs.Laws.{settled-is}
-use Rattle.stores.specs.Plan.{madeRes, written}
+use Rattle.stores.specs.Meaning.{madeRes, written}
 use Rattle.stores.proofs.Laws.{none-written, fas-yes, fas-out, fas-no}
 use borrow.Author.Needs.{needs}
 use Rattle.stores.proofs.fas.Statement.{statement}

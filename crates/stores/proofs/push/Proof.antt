@@ -1,7 +1,7 @@
 use mathlib.Core.Path.{sym, _∙_, ap}
 use Rattle.word.proofs.Laws.{back}
-use Rattle.registers.specs.Answer.{putRes, result}
-use Rattle.stores.specs.Plan.{madeRes}
+use Rattle.registers.specs.Meaning.{putRes, result}
+use Rattle.stores.specs.Meaning.{madeRes}
 use Rattle.stores.proofs.Laws.{none-written, push-yes, push-no}
 use borrow.Author.Needs.{needs}
 use Rattle.stores.proofs.push.Statement.{statement}

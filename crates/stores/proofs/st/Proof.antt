@@ -1,8 +1,8 @@
 use mathlib.Core.Path.{sym, _∙_, ap}
 use Rattle.word.proofs.Laws.{back}
 use Rattle.definition.specs.Registers.{regAt}
-use Rattle.registers.specs.Answer.{putRes, result}
-use Rattle.stores.specs.Plan.{madeRes}
+use Rattle.registers.specs.Meaning.{putRes, result}
+use Rattle.stores.specs.Meaning.{madeRes}
 use Rattle.stores.proofs.Laws.{none-written, st-yes, st-nowhere, st-no}
 use borrow.Author.Needs.{needs}
 use Rattle.stores.proofs.st.Statement.{statement}

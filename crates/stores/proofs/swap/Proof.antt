@@ -2,11 +2,11 @@ use mathlib.Core.Path.{sym, _∙_, ap}
 use Rattle.word.proofs.Laws.{back}
 use Rattle.definition.specs.declared.Cell.{Cell}
 use Rattle.definition.specs.Registers.{regAt}
-use Rattle.definition.specs.Computer.{core}
+use Rattle.definition.specs.Exec.{core}
 use Rattle.definition.specs.Instructions.{swapBack}
-use Rattle.registers.specs.Answer.{putRes, result}
+use Rattle.registers.specs.Meaning.{putRes, result}
 use Rattle.arguments.specs.By.{argOf}
-use Rattle.stores.specs.Plan.{madeRes}
+use Rattle.stores.specs.Meaning.{madeRes}
 use Rattle.stores.proofs.Laws.{none-written, swap-yes, swap-not, swap-no}
 use borrow.Author.Needs.{needs}
 use Rattle.stores.proofs.swap.Statement.{statement}

@@ -1,8 +1,8 @@
 use mathlib.Core.Path.{sym, _∙_, ap}
 use Rattle.word.proofs.Laws.{back}
-use Rattle.registers.specs.Answer.{putRes, result}
+use Rattle.registers.specs.Meaning.{putRes, result}
 use Rattle.registers.proofs.Laws.{settled-is}
-use Rattle.stores.specs.Plan.{madeRes}
+use Rattle.stores.specs.Meaning.{madeRes}
 use Rattle.stores.proofs.Laws.{none-written, back-reg, back-yes, back-no}
 use borrow.Author.Needs.{needs}
 use Rattle.stores.proofs.swap_back.Statement.{statement}

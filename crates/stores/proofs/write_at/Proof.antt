@@ -1,7 +1,7 @@
 use mathlib.Core.Path.{_∙_, ap}
 use native.Mathlib.Omega.{arith}
-use Rattle.registers.specs.Answer.{putRes, result}
-use Rattle.stores.specs.Plan.{madeRes, written}
+use Rattle.registers.specs.Meaning.{putRes, result}
+use Rattle.stores.specs.Meaning.{madeRes, written}
 use Rattle.stores.proofs.Laws.{none-written, write-in, write-out}
 use borrow.Author.Needs.{needs}
 use Rattle.stores.proofs.write_at.Statement.{statement}

@@ -2,9 +2,9 @@ use mathlib.Core.Path.{sym, _∙_, ap}
 use lib.IntN.{natAbs}
 use Rattle.word.proofs.Laws.{back, address-cast, address-by}
 use Rattle.definition.specs.Memory.{asAddress}
-use Rattle.definition.specs.Computer.{core, branch, return}
+use Rattle.definition.specs.Exec.{core, branch, return}
 use Rattle.definition.specs.Instructions.{jump}
-use Rattle.registers.specs.Answer.{putRes}
+use Rattle.registers.specs.Meaning.{putRes}
 use Rattle.arguments.specs.By.{argOf}
 use Rattle.stores.proofs.Laws.{jump-yes, jump-no}
 use Rattle.instructions.proofs.Laws.{branch-is}

@@ -1,7 +1,7 @@
 use mathlib.Core.Path.{sym, _∙_, ap}
 use Rattle.word.proofs.Laws.{back}
 use Rattle.definition.specs.Registers.{regAt}
-use Rattle.registers.specs.Answer.{putRes}
+use Rattle.registers.specs.Meaning.{putRes}
 use Rattle.registers.proofs.Laws.{settled-is}
 use Rattle.instructions.proofs.Laws.{ld-yes, ld-no}
 use borrow.Author.Needs.{needs}

@@ -1,5 +1,5 @@
 use mathlib.Core.Path.{sym, _∙_, ap}
-use Rattle.registers.specs.Answer.{putRes}
+use Rattle.registers.specs.Meaning.{putRes}
 use Rattle.instructions.proofs.Laws.{rti-pc, rti-not, rti-no, rti-user}
 use borrow.Author.Needs.{needs}
 use Rattle.instructions.proofs.moves.rti.Statement.{statement}

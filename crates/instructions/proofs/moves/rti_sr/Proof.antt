@@ -1,6 +1,6 @@
 use mathlib.Core.Path.{sym, _∙_, ap}
 use Rattle.word.proofs.Laws.{back}
-use Rattle.registers.specs.Answer.{putRes}
+use Rattle.registers.specs.Meaning.{putRes}
 use Rattle.instructions.proofs.Laws.{sr-yes, sr-not, sr-no}
 use borrow.Author.Needs.{needs}
 use Rattle.instructions.proofs.moves.rti_sr.Statement.{statement}

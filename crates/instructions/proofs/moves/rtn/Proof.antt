@@ -3,7 +3,7 @@ use native.Mathlib.Omega.{arith}
 use lib.IntN.{natAbs}
 use Rattle.word.proofs.Laws.{back, address-cast, address-by}
 use Rattle.definition.specs.Memory.{asAddress, extractAddress}
-use Rattle.registers.specs.Answer.{putRes}
+use Rattle.registers.specs.Meaning.{putRes}
 use Rattle.instructions.proofs.Laws.{rtn-yes, rtn-not, rtn-no, sp-fits}
 use borrow.Author.Needs.{needs}
 use Rattle.instructions.proofs.moves.rtn.Statement.{statement}

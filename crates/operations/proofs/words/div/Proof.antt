@@ -4,7 +4,7 @@ use Rattle.definition.specs.declared.Quotient.{Quotient}
 use Rattle.definition.specs.Word.{quotient}
 use Rattle.definition.specs.Registers.{regAt}
 use Rattle.definition.specs.Instructions.{putQuotient}
-use Rattle.registers.specs.Answer.{settled}
+use Rattle.registers.specs.Meaning.{settled}
 use Rattle.operations.proofs.Laws.{words-put, words-none}
 use borrow.Author.Needs.{needs}
 use Rattle.operations.proofs.words.div.Statement.{statement}

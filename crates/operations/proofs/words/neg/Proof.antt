@@ -3,7 +3,7 @@ use mathlib.Core.Path.{sym, _∙_, ap}
 use Rattle.definition.specs.declared.Wrapped.{Wrapped}
 use Rattle.definition.specs.Registers.{regAt}
 use Rattle.definition.specs.Instructions.{putWrapped}
-use Rattle.registers.specs.Answer.{settled, putRes}
+use Rattle.registers.specs.Meaning.{settled, putRes}
 use Rattle.registers.proofs.Laws.{settled-is}
 use Rattle.operations.proofs.Laws.{neg-yes, neg-no}
 use borrow.Author.Needs.{needs}

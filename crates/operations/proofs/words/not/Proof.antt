@@ -3,7 +3,7 @@ use mathlib.Core.Path.{sym, _∙_, ap}
 use lib.IntN.{ℤ}
 use Rattle.definition.specs.Registers.{regAt}
 use Rattle.definition.specs.Instructions.{putResult}
-use Rattle.registers.specs.Answer.{settled, putRes}
+use Rattle.registers.specs.Meaning.{settled, putRes}
 use Rattle.registers.proofs.Laws.{settled-is}
 use Rattle.operations.proofs.Laws.{not-yes, not-no}
 use borrow.Author.Needs.{needs}

@@ -9,7 +9,7 @@ use lib.IntN.{ℤ, pos}
 use lib.Signed.{ltZ}
 use Rattle.word.proofs.Laws.{back}
 use Rattle.definition.specs.Encoding.{Extracted, extractInstruction, sound, soundInstruction, Instruction, instruction}
-use Rattle.definition.specs.Computer.{core, ok}
+use Rattle.definition.specs.Exec.{core, ok}
 use Rattle.definition.specs.Runtime.{orInstruction}
 use Rattle.encoding.proofs.Rule.{both}
 use Rattle.encoding.proofs.Sound.{code, code-sound}

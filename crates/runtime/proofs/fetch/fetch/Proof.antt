@@ -3,7 +3,7 @@ use native.Mathlib.Omega.{arith}
 use Rattle.definition.specs.declared.Cell.{Cell}
 use Rattle.definition.specs.Encoding.{sound, extractInstruction}
 use Rattle.definition.specs.Registers.{with-pc}
-use Rattle.definition.specs.Computer.{core}
+use Rattle.definition.specs.Exec.{core}
 use Rattle.definition.specs.Runtime.{orInstruction}
 use Prim.Native.Nat.{_+_, _<_}
 use Rattle.definition.specs.Memory.{cellCount}

@@ -3,10 +3,10 @@ use Rattle.definition.specs.declared.Error.{Error}
 use Rattle.definition.specs.Memory.{word}
 use Rattle.definition.specs.Registers as R
 use Rattle.definition.specs.Registers.{regAt, putReg}
-use Rattle.definition.specs.Computer.{ok, err, core}
+use Rattle.definition.specs.Exec.{ok, err, core}
 use Rattle.definition.specs.Instructions.{nothing, reads}
 use Rattle.registers.specs.declared.Put.{Put}
-use Rattle.registers.specs.Answer.{answer, putRes, settled, result}
+use Rattle.registers.specs.Meaning.{answer, putRes, settled, result}
 use Rattle.registers.proofs.Laws.{settled-is}
 use Rattle.runtime.proofs.Served.{serves-kept, serves-input, is-in}
 use mathlib.Core.Bool.{Bool}

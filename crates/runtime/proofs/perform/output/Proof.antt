@@ -1,9 +1,9 @@
 use mathlib.Core.Path.{_≡_, _∙_, sym, ap}
 use mathlib.Core.Bool.{Bool, true}
 use Rattle.definition.specs.Registers.{regAt}
-use Rattle.definition.specs.Computer.{ok, err, core}
+use Rattle.definition.specs.Exec.{ok, err, core}
 use Rattle.definition.specs.Instructions.{nothing, writes}
-use Rattle.registers.specs.Answer.{answer, result}
+use Rattle.registers.specs.Meaning.{answer, result}
 use Rattle.word.proofs.Laws.{back}
 use Rattle.runtime.proofs.Served.{serves-kept, serves-full, serves-sent, is-out}
 use borrow.Author.Needs.{needs}
