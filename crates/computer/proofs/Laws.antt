@@ -23,7 +23,7 @@ use Rattle.definition.specs.Accepted.{AcceptedMachine}
 use Rattle.definition.proofs.Step.{limit-below}
 use Rattle.definition.proofs.Accepted.{OutcomeHas, step-accepted}
 use Rattle.memory.specs.Overlay.{overlay}
-use Rattle.memory.proofs.Laws.{over-none}
+use Rattle.memory.proofs.Laws.{over-none, over-no-cell}
 use Rattle.registers.specs.Meaning.{result, settled}
 use Rattle.stores.specs.declared.Made.{Made}
 use Rattle.encoding.specs.Meaning.{instrOf}
@@ -70,7 +70,7 @@ module _ (l : List ℤ) (s : Registers) (f : Fetched) (h : Fetches l s f) where
   pub turn-err : cellCount l ≤ 10000 → (q o : List ℕ) (n : ℕ) (k : ConsoleState) → f .ok ≡ false → concluded l q o (kept (settled (f .s) (refused (f .error))) k) (f .i .cost) n ≡ M.turn (machine (core l s) n (consoleOf k q o))
   unfolding M.turn M.afterAttempt M.conclude
   turn-err few q o n k e =
-      ap (λ (x : List ℤ). M.conclude (f .i .cost) (machine (core x (f .s)) n (consoleOf k q o)) (err (f .error) (core x (f .s)))) (over-none l 4294967295 empty (omega arith))
+      ap (λ (x : List ℤ). M.conclude (f .i .cost) (machine (core x (f .s)) n (consoleOf k q o)) (err (f .error) (core x (f .s)))) (over-no-cell l empty (omega arith))
       ∙ ap (λ (x : Res Executed). M.afterAttempt (machine (core l s) n (consoleOf k q o)) x) (attempt-err e)
 
 -- ---- the step

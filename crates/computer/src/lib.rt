@@ -131,7 +131,7 @@ pub fn step(
             let p = d.p;
             let u = p.s;
             if d.ok {
-                if p.at == 4294967295 {
+                if p.at == memory::NO_CELL {
                     if is_quiet(k, n) {
                         return completes(u, n, k);
                     }

@@ -15,11 +15,10 @@ use borrow.Author.Tests.{ltb-true, lt-ltb, le-ltb}
 use Rattle.definition.specs.declared.Cell.{Cell}
 use Rattle.definition.specs.declared.Word.the-variants.{Is, NotWord}
 use Rattle.definition.specs.declared.Found.the-variants.{Here, Outside}
-use Rattle.definition.specs.Memory.{cellCount, cellAt, putCell, get, found, wordAt, asAddress}
-use Rattle.definition.specs.Word.{addressOf}
-use Rattle.definition.specs.declared.Address.the-variants.{NotAddress}
+use Rattle.definition.specs.Memory.{cellCount, cellAt, putCell, get, found, wordAt}
+use Rattle.definition.specs.Constants.{CELLS-MOST}
 use Rattle.definition.proofs.Cells.{length-put, cell-same, cell-other}
-use Rattle.memory.specs.Overlay.{overlay}
+use Rattle.memory.specs.Overlay.{overlay, NO-CELL}
 
 pub get-in : (l : List ℤ) (n : ℕ) → n < cellCount l → get l n ≡ Here (cellAt l n)
 unfolding get found
@@ -71,6 +70,9 @@ module _ (l : List ℤ) (n : ℕ) (v : Cell) where
       go true = rw (length-put l n v, cell-other l n m v (λ e. h (sym e)))
       go false = refl
 
+pub over-no-cell : (l : List ℤ) (v : Cell) → cellCount l ≤ CELLS-MOST → overlay NO-CELL v l ≡ l
+over-no-cell l v h = over-none l NO-CELL v (omega arith)
+
 -- ---- words
 
 pub word-one : (t f : ℤ) → SFits w64 t → SFits w64 f → ofZ w64 t ≡ 1 → Is (toZ w64 (ofZ w64 f)) ≡ wordAt t f
@@ -94,12 +96,3 @@ word-high t f ft h = go t (rw (toZ-ofZ ft) at h)
     go (pos (suc zero)) h = absurd (true≢false h)
     go (pos (suc (suc k))) h = unfold wordAt in refl
     go (negsuc k) h = absurd (true≢false h)
-
--- asAddress, case by case
-pub as-is : (w : ℤ) → asAddress (Is w) ≡ addressOf w
-unfolding asAddress
-as-is w = refl
-
-pub as-not : asAddress NotWord ≡ NotAddress
-unfolding asAddress
-as-not = refl

@@ -14,7 +14,7 @@ use Rattle.definition.specs.Exec.{ok, err}
 use Rattle.definition.specs.Runtime as M
 use Rattle.definition.specs.Runtime.{Machine, hasHandler, enteredRegisters}
 use Rattle.definition.proofs.Step.{limit-below, limit-full}
-use Rattle.memory.specs.Overlay.{overlay}
+use Rattle.memory.specs.Overlay.{overlay, NO-CELL}
 use Rattle.console.specs.declared.ConsoleState.{ConsoleState}
 use Rattle.runtime.specs.declared.State.{State}
 use Rattle.runtime.specs.declared.ending.Ends.{Ends}
@@ -22,7 +22,7 @@ use Rattle.runtime.specs.declared.arrive.Performed.{Performed}
 use Rattle.runtime.specs.declared.arrive.Arrival.{Arrival}
 use Rattle.runtime.specs.declared.decide.Decision.{Decision}
 use Rattle.runtime.specs.Meaning.{machineAt, endingOf, arrivedAt, turnAt, turnOf, polled, concluded, Concludes, decidedAt, decidedOf, Decides}
-use Rattle.memory.proofs.Laws.{over-none}
+use Rattle.memory.proofs.Laws.{over-no-cell}
 
 -- ---- conclude
 
@@ -61,13 +61,13 @@ enteredBy a =
 
 abbrev pub full : State → Decision
 full m =
-    record { completed = false; stop = 7; detail = 0; at = 4294967295; v = cell (pos 0) (pos 0) (pos 0); sends = false; to = 0; byte = 0; enters = false; pc = 0; sr = pos 0; code = 0; m = m }
+    record { completed = false; stop = 7; detail = 0; at = NO-CELL; v = cell (pos 0) (pos 0) (pos 0); sends = false; to = 0; byte = 0; enters = false; pc = 0; sr = pos 0; code = 0; m = m }
 
 module _ (l : List ℤ) (m : State) (a : Arrival) where
   -- stop 7 writes nothing
   full-at : cellCount l ≤ 10000 → (q o : List ℕ) → decidedOf l q o (full m) ≡ M.stopped CYCLES-FULL 0 (machineAt l q o m)
   full-at h q o =
-      ap (λ (x : List ℤ). M.stopped CYCLES-FULL 0 (machineAt x q o m)) (over-none l 4294967295 (cell (pos 0) (pos 0) (pos 0)) (omega arith))
+      ap (λ (x : List ℤ). M.stopped CYCLES-FULL 0 (machineAt x q o m)) (over-no-cell l (cell (pos 0) (pos 0) (pos 0)) (omega arith))
 
   pub decides-full : cellCount l ≤ 10000 → a .enters ≡ false → CYCLES-END ≤ a .cycles → Decides l m a (full m)
   unfolding M.settle M.reached

@@ -16,7 +16,7 @@ use Rattle.definition.specs.Encoding.{Instruction, extractInstruction}
 use Rattle.definition.specs.Exec.{Core, Res, ok, err, core}
 use Rattle.definition.specs.Runtime.{Machine, machine, orInstruction, saved, Executed}
 use Rattle.definition.specs.Runtime as M
-use Rattle.memory.specs.Overlay.{overlay}
+use Rattle.memory.specs.Overlay.{overlay, NO-CELL}
 use Rattle.registers.specs.Meaning.{result}
 use Rattle.registers.specs.declared.Put.{Put}
 use Rattle.stores.specs.declared.Made.{Made}
@@ -101,7 +101,7 @@ pub record Concludes (e : Performed) (cost cycles : ℕ) (a : Arrival) : Type 0 
 
 abbrev pub kept : Put → ConsoleState → Performed
 kept q k =
-    record { ok = q .ok; error = q .error; s = q .s; at = 4294967295; v = empty; k = k; sends = false; to = 0; byte = 0 }
+    record { ok = q .ok; error = q .error; s = q .s; at = NO-CELL; v = empty; k = k; sends = false; to = 0; byte = 0 }
 
 abbrev pub keptMade : Made → ConsoleState → Performed
 keptMade d k =

@@ -21,8 +21,8 @@ use Rattle.definition.proofs.Row.{accepted-machine}
 use Rattle.definition.proofs.Accepted.{call-is, run-ends}
 use Rattle.console.specs.declared.ConsoleState.{ConsoleState}
 use Rattle.console.specs.Meaning.{consoleOf}
-use Rattle.memory.proofs.Laws.{over-none}
-use Rattle.memory.specs.Overlay.{overlay}
+use Rattle.memory.proofs.Laws.{over-no-cell}
+use Rattle.memory.specs.Overlay.{overlay, NO-CELL}
 use Rattle.runtime.specs.declared.State.{State}
 use Rattle.runtime.specs.declared.arrive.Arrival.{Arrival}
 use Rattle.runtime.specs.declared.decide.Decision.{Decision}
@@ -70,14 +70,14 @@ run-refused b l h = sym (ap (λ (t : Bool). cond t (ran (M.run b (lentMachine l)
 -- the step that does nothing but enter
 abbrev pub raising : State → ℕ → Arrival
 raising m code =
-    record { enters = true; stops = false; number = code; detail = 0; s = m .s; at = 4294967295; v = empty; cycles = m .cycles; k = m .k; sends = false; to = 0; byte = 0 }
+    record { enters = true; stops = false; number = code; detail = 0; s = m .s; at = NO-CELL; v = empty; cycles = m .cycles; k = m .k; sends = false; to = 0; byte = 0 }
 
 module _ (l row : List ℤ) (code : ℕ) (d : Decision) (few : cellCount l ≤ 10000) (h : Decides l (rowState row) (raising (rowState row) code) d) where
   decided-is : decidedOf l [] [] d ≡ M.limit (quietMachine l row) (M.recover code (quietMachine l row))
   unfolding M.settle machineOf
   decided-is =
       h .is [] []
-      ∙ ap (λ (x : List ℤ). M.limit (machineAt l [] [] (rowState row)) (M.recover code (machineAt x [] [] (rowState row)))) (over-none l 4294967295 empty (omega arith))
+      ∙ ap (λ (x : List ℤ). M.limit (machineAt l [] [] (rowState row)) (M.recover code (machineAt x [] [] (rowState row)))) (over-no-cell l empty (omega arith))
 
   raise-is : passes (raiseCheck l row code) ≡ true → raised l row (M.limit (quietMachine l row) (M.recover code (quietMachine l row))) ≡ raise l row code
   unfolding raise

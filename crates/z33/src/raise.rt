@@ -7,10 +7,11 @@ ghost use mathlib.Core.Path.{_≡_};
 ghost use mathlib.Core.Bool.{true, false};
 ghost use lib.IntN.{pos};
 ghost use Rattle.definition.specs.Calls.{called, raise};
+ghost use Rattle.memory.specs.Overlay.{NO-CELL};
 
 // A step that arrives at entry with this code and has done nothing else.
 pub fn raising(m: State, code: u32) -> Arrival
-    ensures { λ r. ⌜ r ≡ record { enters = true; stops = false; number = code; detail = 0; s = m .s; at = 4294967295; v = record { tag = pos 0; first = pos 0; second = pos 0 }; cycles = m .cycles; k = m .k; sends = false; to = 0; byte = 0 } ⌝ }
+    ensures { λ r. ⌜ r ≡ record { enters = true; stops = false; number = code; detail = 0; s = m .s; at = NO-CELL; v = record { tag = pos 0; first = pos 0; second = pos 0 }; cycles = m .cycles; k = m .k; sends = false; to = 0; byte = 0 } ⌝ }
 {
     let s = m.s;
     let k = m.k;
@@ -25,7 +26,7 @@ pub fn raising(m: State, code: u32) -> Arrival
         number: code,
         detail: 0,
         s,
-        at: 4294967295,
+        at: memory::NO_CELL,
         v,
         cycles: m.cycles,
         k,

@@ -6,9 +6,10 @@ mod clock;
 mod programs;
 
 use judge::Judge;
+use layout::Row;
 use programs::Program;
 
-type Machine = (Vec<i64>, [i64; 16]);
+type Machine = (Vec<i64>, Row);
 
 const QUEUE: usize = 256;
 const OUTPUT: usize = 4_096;

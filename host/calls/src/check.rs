@@ -1,11 +1,12 @@
 //! The library held to the model, one kind of trial after another.
 
 use draws::rng::Rng;
+use layout::limit::CELLS_MOST;
+use layout::refusal::DAMAGED_CELL;
 
 use crate::asked::Asked;
 use crate::coverage::{Coverage, all_pairs};
 use crate::faults::{self, Fault};
-use crate::refusals::MOST_CELLS;
 use crate::trial::{CALLS, Call, Trial};
 use crate::{accepted, anything, damaged, huge, tags};
 
@@ -94,14 +95,14 @@ impl Check {
 
     /// One damaged cell at each address of the largest machine, and by half another one behind it.
     fn every_address(&mut self, call: Call) -> Result<(), String> {
-        if !call.refusals().contains(&5) {
+        if !call.refusals().contains(&DAMAGED_CELL) {
             return Ok(());
         }
-        let trial = accepted::draw_with(&mut self.rng, call, MOST_CELLS);
-        for address in 0..MOST_CELLS {
+        let trial = accepted::draw_with(&mut self.rng, call, CELLS_MOST);
+        for address in 0..CELLS_MOST {
             let mut faults = vec![Fault::Damaged(address, self.rng.pick(&damaged::DAMAGED))];
             if call != Call::ReadCell && self.rng.once_in(2) {
-                let behind = self.rng.between(address as i64, MOST_CELLS as i64 - 1) as usize;
+                let behind = self.rng.between(address as i64, CELLS_MOST as i64 - 1) as usize;
                 faults.insert(0, Fault::Damaged(behind, self.rng.pick(&damaged::DAMAGED)));
             }
             self.due(trial.clone(), &faults)?;

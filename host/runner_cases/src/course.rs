@@ -1,53 +1,17 @@
 //! The course cases of document 01 as programs for the runner.
 
+use layout::Cell;
+use layout::cell::{EMPTY, word};
+use layout::form::{NONE, dir, imm, ind, instruction, reg};
+use layout::op::{CALL, DIV, FAS, JMP, LD, OUT, POP, PUSH, RESET, RTI, SHL, SHR, ST, SWAP, TRAP};
+use layout::reg::{A, PC, SR};
+use layout::sr::SUPERVISOR;
+
 use crate::Case;
-use crate::image::{Cell, Image, at_the_edge, judged};
-
-const DIV: i64 = 4;
-const FAS: i64 = 5;
-const JMP: i64 = 7;
-const LD: i64 = 14;
-const OUT: i64 = 20;
-const POP: i64 = 21;
-const PUSH: i64 = 22;
-const RESET: i64 = 23;
-const RTI: i64 = 24;
-const SHL: i64 = 26;
-const SHR: i64 = 27;
-const ST: i64 = 28;
-const SWAP: i64 = 30;
-const TRAP: i64 = 31;
-const CALL: i64 = 2;
-
-const A: i64 = 0;
-const PC: i64 = 2;
-const SR: i64 = 4;
-const SUPERVISOR: i64 = 512;
-
-/// An operand: mode, register, number.
-#[derive(Clone, Copy)]
-struct Operand(i64, i64, i64);
-
-const NONE: Operand = Operand(0, 0, 0);
-fn imm(number: i64) -> Operand {
-    Operand(1, 0, number)
-}
-fn reg(r: i64) -> Operand {
-    Operand(2, r, 0)
-}
-fn direct(number: i64) -> Operand {
-    Operand(3, 0, number)
-}
-fn indirect(r: i64) -> Operand {
-    Operand(4, r, 0)
-}
-
-fn op(op: i64, Operand(m1, r1, first): Operand, Operand(m2, r2, second): Operand) -> Cell {
-    [2 + (op * 36 + m1 * 6 + m2) * 25 + r1 * 5 + r2, first, second]
-}
+use crate::image::{Image, at_the_edge, judged};
 
 fn reset() -> Cell {
-    op(RESET, NONE, NONE)
+    instruction(RESET, NONE, NONE)
 }
 
 /// A program from cell 0 on, in user mode.
@@ -66,46 +30,53 @@ pub fn cases() -> Vec<Case> {
 }
 
 fn inside() -> Vec<Image> {
-    let ld = |w| op(LD, imm(w), reg(A));
-    let shift = |o, n| program(&[ld(-5), op(o, imm(n), reg(A)), reset()]);
+    let ld = |w| instruction(LD, imm(w), reg(A));
+    let shift = |o, n| program(&[ld(-5), instruction(o, imm(n), reg(A)), reset()]);
     let mut all = vec![
         program(&[[202, 5, 0], [20_702, 0, 0]]),
         program(&[[3_802, 0, 0]]),
-        program(&[ld(i64::MIN), op(DIV, imm(-1), reg(A))]),
-        program(&[ld(i64::MIN), op(DIV, imm(1), reg(A)), reset()]),
-        program(&[ld(-7), op(DIV, imm(2), reg(A)), reset()]),
+        program(&[ld(i64::MIN), instruction(DIV, imm(-1), reg(A))]),
+        program(&[ld(i64::MIN), instruction(DIV, imm(1), reg(A)), reset()]),
+        program(&[ld(-7), instruction(DIV, imm(2), reg(A)), reset()]),
         // budget spent: a loop of one jump
-        program(&[op(JMP, imm(0), NONE)]),
+        program(&[instruction(JMP, imm(0), NONE)]),
         // push at sp 0: sp wraps and stays
-        program(&[op(PUSH, imm(5), NONE)]),
+        program(&[instruction(PUSH, imm(5), NONE)]),
         // swap [%a],%a writes through the new a
         started(
             [10, 0, 0],
-            &[(5, [1, 7, 0]), (10, ld(5)), (11, op(SWAP, indirect(A), reg(A))), (12, reset())],
+            &[(5, word(7)), (10, ld(5)), (11, instruction(SWAP, ind(A), reg(A))), (12, reset())],
         ),
         // fas [5],%sr in user mode: cell 5 is written, code 3
-        started([10, 0, 0], &[(10, op(FAS, direct(5), reg(SR)))]),
+        started([10, 0, 0], &[(10, instruction(FAS, dir(5), reg(SR)))]),
         // the same with a handler that loads the cell
         started(
             [10, 0, 0],
-            &[(10, op(FAS, direct(5), reg(SR))), (200, op(LD, direct(5), reg(A))), (201, reset())],
+            &[
+                (10, instruction(FAS, dir(5), reg(SR))),
+                (200, instruction(LD, dir(5), reg(A))),
+                (201, reset()),
+            ],
         ),
         // call pushes before its operand is read: [7] is the pushed pc
-        started([10, 8, 0], &[(10, op(CALL, direct(7), NONE)), (11, reset())]),
+        started([10, 8, 0], &[(10, instruction(CALL, dir(7), NONE)), (11, reset())]),
         // pop into pc of an instruction: sp has moved all the same
-        started([10, 20, 0], &[(10, op(POP, reg(PC), NONE)), (20, reset())]),
+        started([10, 20, 0], &[(10, instruction(POP, reg(PC), NONE)), (20, reset())]),
         // a privileged instruction in user mode, with and without handler, and in supervisor mode
-        program(&[op(OUT, imm(65), direct(111))]),
-        started([0, 0, 0], &[(0, op(OUT, imm(65), direct(111))), (200, reset())]),
-        started([0, 0, SUPERVISOR], &[(0, op(OUT, imm(65), direct(111))), (1, reset())]),
+        program(&[instruction(OUT, imm(65), dir(111))]),
+        started([0, 0, 0], &[(0, instruction(OUT, imm(65), dir(111))), (200, reset())]),
+        started([0, 0, SUPERVISOR], &[(0, instruction(OUT, imm(65), dir(111))), (1, reset())]),
         // trap into a handler, which returns
-        started([0, 0, 0], &[(0, op(TRAP, NONE, NONE)), (1, reset()), (200, op(RTI, NONE, NONE))]),
+        started(
+            [0, 0, 0],
+            &[(0, instruction(TRAP, NONE, NONE)), (1, reset()), (200, instruction(RTI, NONE, NONE))],
+        ),
         // an empty image: cell 0 is no instruction
         Image::default(),
         // sr may be any word
         started([0, 4_294_967_295, i64::MIN], &[(0, reset())]),
         // a later line over an earlier one
-        started([0, 0, 0], &[(0, [1, 9, 0]), (0, reset()), (2_047, [1, -9, 0]), (2_047, [0, 0, 0])]),
+        started([0, 0, 0], &[(0, word(9)), (0, reset()), (2_047, word(-9)), (2_047, EMPTY)]),
     ];
     for o in [SHL, SHR] {
         all.extend([0, 1, 63, 64, -1].map(|n| shift(o, n)));
@@ -114,8 +85,8 @@ fn inside() -> Vec<Image> {
 }
 
 fn edges() -> Vec<Image> {
-    let ld = |n| op(LD, direct(n), reg(A));
-    let st = |n| op(ST, reg(A), direct(n));
+    let ld = |n| instruction(LD, dir(n), reg(A));
+    let st = |n| instruction(ST, reg(A), dir(n));
     vec![
         started([2_047, 0, 0], &[(2_047, reset())]),
         started([2_048, 0, 0], &[(0, reset())]),

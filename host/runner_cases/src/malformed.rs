@@ -1,5 +1,7 @@
 //! Texts that break the form, each with the lowest line that does, and texts at its edge that do not.
 
+use layout::Cell;
+
 use crate::Case;
 use crate::image::{Image, at_the_edge, refused};
 
@@ -105,7 +107,7 @@ const SECOND: &[&str] = &[
 ];
 
 /// In order: leading zeros, -0, the ends of 64 bits and of the addresses.
-const IN_ORDER: &[(&str, &[(i64, [i64; 3])], [i64; 3])] = &[
+const IN_ORDER: &[(&str, &[(i64, Cell)], [i64; 3])] = &[
     ("start,0,0,0\n", &[], [0, 0, 0]),
     ("start,-0,-000,-0\n", &[], [0, 0, 0]),
     ("start,0000000000000000000000000000000000000007,1,2\n", &[], [7, 1, 2]),
@@ -135,7 +137,7 @@ fn broken(input: &[u8], line: u64) -> Case {
     Case { input: input.to_vec(), due: refused(line) }
 }
 
-fn in_order(text: &str, cells: &[(i64, [i64; 3])], start: [i64; 3]) -> Case {
+fn in_order(text: &str, cells: &[(i64, Cell)], start: [i64; 3]) -> Case {
     let due = at_the_edge(&Image { start, cells: cells.to_vec() }).due;
     Case { input: text.into(), due }
 }

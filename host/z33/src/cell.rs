@@ -1,5 +1,7 @@
 use std::fmt;
 
+use layout::cell::{EMPTY, TAG_WORD, word};
+
 /// What a cell of memory, or the register a or b, holds.
 #[derive(Clone, Copy, Debug, Default, PartialEq, Eq, Hash)]
 pub enum Cell {
@@ -21,19 +23,19 @@ pub enum Cell {
 
 impl Cell {
     /// The cell of three numbers.
-    pub fn from_numbers([tag, first, second]: [i64; 3]) -> Self {
-        match (tag, first, second) {
-            (0, 0, 0) => Cell::Empty,
-            (1, word, 0) => Cell::Word(word),
-            _ => Cell::Instruction { tag, first, second },
+    pub fn from_numbers(numbers: [i64; 3]) -> Self {
+        match numbers {
+            EMPTY => Cell::Empty,
+            [TAG_WORD, word, 0] => Cell::Word(word),
+            [tag, first, second] => Cell::Instruction { tag, first, second },
         }
     }
 
     /// Its tag, first and second.
     pub fn numbers(self) -> [i64; 3] {
         match self {
-            Cell::Empty => [0, 0, 0],
-            Cell::Word(word) => [1, word, 0],
+            Cell::Empty => EMPTY,
+            Cell::Word(held) => word(held),
             Cell::Instruction { tag, first, second } => [tag, first, second],
         }
     }

@@ -11,6 +11,8 @@
 //! # Ok::<(), z33::Refusal>(())
 //! ```
 
+use layout::stop;
+
 use crate::{Cell, Exception, Ran, Refusal, Register, Stop};
 
 /// Makes all cells empty and the row 0, whatever they held.
@@ -90,7 +92,7 @@ pub fn raise(cells: &mut [i64], row: &mut [i64], exception: Exception) -> Result
         unsafe { z33_sys::z33_raise(cells.as_mut_ptr(), cells.len(), row, row_len, exception.code()) };
     Refusal::check(raised.refusal, raised.place)?;
     Ok(match raised.stop {
-        0 => None,
+        stop::ENTERED => None,
         stop => Some(Stop::of(stop, raised.detail)),
     })
 }

@@ -46,21 +46,9 @@ mod stop;
 
 pub use cell::Cell;
 pub use exception::Exception;
+pub use layout::ROW as ROW_LENGTH;
+pub use layout::sr::{INTERRUPT_ENABLE, NEGATIVE, OVERFLOW, SUPERVISOR, ZERO};
 pub use machine::Machine;
 pub use refusal::Refusal;
 pub use register::Register;
 pub use stop::{Ran, Stop};
-
-/// Numbers in a row.
-pub const ROW_LENGTH: usize = 16;
-
-/// The bit Z of sr: the last result was 0, or two words were equal.
-pub const ZERO: i64 = 1 << 1;
-/// The bit N of sr: the last result was below 0, or an operand below its register.
-pub const NEGATIVE: i64 = 1 << 2;
-/// The bit V of sr: the last result was wrapped at 64 bits.
-pub const OVERFLOW: i64 = 1 << 3;
-/// The bit I of sr: interrupts are taken.
-pub const INTERRUPT_ENABLE: i64 = 1 << 8;
-/// The bit S of sr: supervisor mode.
-pub const SUPERVISOR: i64 = 1 << 9;

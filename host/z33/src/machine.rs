@@ -1,18 +1,9 @@
+use layout::{Row, at, cell, limit, row};
+
 use crate::{Cell, Exception, ROW_LENGTH, Ran, Refusal, Register, Stop, lent};
 
 /// More cells, or bytes, than any machine has: enough to be refused.
-const TOO_MANY: usize = 65_537;
-
-/// Places in the row, from 0.
-mod at {
-    pub const A: usize = 0;
-    pub const B: usize = 3;
-    pub const PC: usize = 6;
-    pub const SP: usize = 7;
-    pub const SR: usize = 8;
-    pub const CYCLES: usize = 9;
-    pub const OUTPUT_COUNT: usize = 15;
-}
+const TOO_MANY: usize = limit::OUTPUT_MOST + 1;
 
 /// A machine with its own cells, input queue, output record and registers.
 ///
@@ -32,7 +23,7 @@ pub struct Machine {
     cells: Vec<i64>,
     queue: Vec<u8>,
     output: Vec<u8>,
-    row: [i64; ROW_LENGTH],
+    row: Row,
 }
 
 impl Machine {
@@ -40,7 +31,7 @@ impl Machine {
     /// registers are 0, so it is in user mode.
     pub fn new(cells: usize, queue: usize, output: usize) -> Result<Self, Refusal> {
         let mut machine = Machine {
-            cells: vec![0; 3 * cells.min(TOO_MANY)],
+            cells: vec![0; cell::LENGTH * cells.min(TOO_MANY)],
             queue: vec![0; queue.min(TOO_MANY)],
             output: vec![0; output.min(TOO_MANY)],
             row: [0; ROW_LENGTH],
@@ -95,10 +86,10 @@ impl Machine {
 
     /// What a register holds; pc, sp and sr hold a word.
     pub fn register(&self, register: Register) -> Cell {
-        let three = |at: usize| Cell::from_numbers([self.row[at], self.row[at + 1], self.row[at + 2]]);
+        let held = |place| Cell::from_numbers(row::cell(&self.row, place));
         match register {
-            Register::A => three(at::A),
-            Register::B => three(at::B),
+            Register::A => held(at::A),
+            Register::B => held(at::B),
             Register::Pc => Cell::Word(self.row[at::PC]),
             Register::Sp => Cell::Word(self.row[at::SP]),
             Register::Sr => Cell::Word(self.row[at::SR]),

@@ -1,6 +1,6 @@
 use std::{error, fmt};
 
-use crate::ROW_LENGTH;
+use layout::{ROW, refusal};
 
 /// Why a call was refused. A refused call has changed nothing.
 #[derive(Clone, Copy, Debug, PartialEq, Eq, Hash)]
@@ -39,35 +39,35 @@ impl Refusal {
     /// Its number, 1 to 11.
     pub fn number(self) -> u64 {
         match self {
-            Refusal::Cells => 1,
-            Refusal::Queue => 2,
-            Refusal::Output => 3,
-            Refusal::Row { .. } => 4,
-            Refusal::DamagedCell { .. } => 5,
-            Refusal::Delivery => 6,
-            Refusal::Drain => 7,
-            Refusal::Address => 8,
-            Refusal::Image => 9,
-            Refusal::Register => 10,
-            Refusal::Code => 11,
+            Refusal::Cells => refusal::CELLS,
+            Refusal::Queue => refusal::QUEUE,
+            Refusal::Output => refusal::OUTPUT,
+            Refusal::Row { .. } => refusal::ROW,
+            Refusal::DamagedCell { .. } => refusal::DAMAGED_CELL,
+            Refusal::Delivery => refusal::DELIVERY,
+            Refusal::Drain => refusal::DRAIN,
+            Refusal::Address => refusal::ADDRESS,
+            Refusal::Image => refusal::IMAGE,
+            Refusal::Register => refusal::REGISTER,
+            Refusal::Code => refusal::CODE,
         }
     }
 
     /// Nothing to refuse, or the refusal of a number and place.
     pub(crate) fn check(number: u64, place: u64) -> Result<(), Self> {
         Err(match number {
-            0 => return Ok(()),
-            1 => Refusal::Cells,
-            2 => Refusal::Queue,
-            3 => Refusal::Output,
-            4 => Refusal::Row { place },
-            5 => Refusal::DamagedCell { address: place },
-            6 => Refusal::Delivery,
-            7 => Refusal::Drain,
-            8 => Refusal::Address,
-            9 => Refusal::Image,
-            10 => Refusal::Register,
-            11 => Refusal::Code,
+            refusal::NONE => return Ok(()),
+            refusal::CELLS => Refusal::Cells,
+            refusal::QUEUE => Refusal::Queue,
+            refusal::OUTPUT => Refusal::Output,
+            refusal::ROW => Refusal::Row { place },
+            refusal::DAMAGED_CELL => Refusal::DamagedCell { address: place },
+            refusal::DELIVERY => Refusal::Delivery,
+            refusal::DRAIN => Refusal::Drain,
+            refusal::ADDRESS => Refusal::Address,
+            refusal::IMAGE => Refusal::Image,
+            refusal::REGISTER => Refusal::Register,
+            refusal::CODE => Refusal::Code,
             _ => unreachable!("the library is proved to refuse with 1 to 11, and refused with {number}"),
         })
     }
@@ -79,7 +79,7 @@ impl fmt::Display for Refusal {
             Refusal::Cells => write!(f, "the cells are not three numbers each for 256 to 10,000 cells"),
             Refusal::Queue => write!(f, "the queue is not 1 to 4,096 bytes"),
             Refusal::Output => write!(f, "the output record is over 65,536 bytes"),
-            Refusal::Row { place: 0 } => write!(f, "the row is not {ROW_LENGTH} numbers"),
+            Refusal::Row { place: 0 } => write!(f, "the row is not {ROW} numbers"),
             Refusal::Row { place } => write!(f, "the row's number {place} is out of its range"),
             Refusal::DamagedCell { address } => write!(f, "the cell at {address} is damaged"),
             Refusal::Delivery => write!(f, "more bytes than the queue has free places"),

@@ -1,5 +1,7 @@
 use std::fmt;
 
+use layout::stop;
+
 use crate::{Exception, Register};
 
 /// Why a run ended.
@@ -27,14 +29,14 @@ impl Stop {
     /// Its number, 0 to 7.
     pub fn number(self) -> u64 {
         match self {
-            Stop::BudgetSpent => 0,
-            Stop::Reset => 1,
-            Stop::NoHandler(_) => 2,
-            Stop::CellError => 3,
-            Stop::Extract => 4,
-            Stop::InvalidRegister(_) => 5,
-            Stop::OutputFull => 6,
-            Stop::CyclesFull => 7,
+            Stop::BudgetSpent => stop::BUDGET_SPENT,
+            Stop::Reset => stop::RESET,
+            Stop::NoHandler(_) => stop::NO_HANDLER,
+            Stop::CellError => stop::CELL_ERROR,
+            Stop::Extract => stop::EXTRACT,
+            Stop::InvalidRegister(_) => stop::INVALID_REGISTER,
+            Stop::OutputFull => stop::OUTPUT_FULL,
+            Stop::CyclesFull => stop::CYCLES_FULL,
         }
     }
 
@@ -49,14 +51,14 @@ impl Stop {
 
     pub(crate) fn of(number: u64, detail: u64) -> Self {
         match number {
-            0 => Stop::BudgetSpent,
-            1 => Stop::Reset,
-            2 => Stop::NoHandler(Exception::of(detail)),
-            3 => Stop::CellError,
-            4 => Stop::Extract,
-            5 => Stop::InvalidRegister(Register::of(detail)),
-            6 => Stop::OutputFull,
-            7 => Stop::CyclesFull,
+            stop::BUDGET_SPENT => Stop::BudgetSpent,
+            stop::RESET => Stop::Reset,
+            stop::NO_HANDLER => Stop::NoHandler(Exception::of(detail)),
+            stop::CELL_ERROR => Stop::CellError,
+            stop::EXTRACT => Stop::Extract,
+            stop::INVALID_REGISTER => Stop::InvalidRegister(Register::of(detail)),
+            stop::OUTPUT_FULL => Stop::OutputFull,
+            stop::CYCLES_FULL => Stop::CyclesFull,
             _ => unreachable!("the library is proved to stop with 0 to 7, and stopped with {number}"),
         }
     }

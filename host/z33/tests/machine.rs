@@ -1,6 +1,7 @@
 //! The wrapper: what each call answers, each refusal and stop by its name and as it prints, and buffers as `Vec` and slices.
 
-use z33::{Cell, Exception, Machine, Ran, Refusal, Register, SUPERVISOR, Stop, lent};
+use layout::{at, row};
+use z33::{Cell, Exception, Machine, ROW_LENGTH, Ran, Refusal, Register, SUPERVISOR, Stop, lent};
 
 const RESET: Cell = Cell::Instruction { tag: 20702, first: 0, second: 0 };
 const NOP: Cell = Cell::Instruction { tag: 15302, first: 0, second: 0 };
@@ -37,7 +38,9 @@ fn sizes_are_refused_by_name() {
 
 #[test]
 fn each_refusal_has_its_number_and_words() {
-    let mut row = vec![0; 16];
+    let mut row = vec![0; ROW_LENGTH];
+    let mut damaged = [0; ROW_LENGTH];
+    row::put_cell(&mut damaged, at::A, [1, 2, 3]);
     let mut cells = vec![0; 768];
     let mut m = machine(&[RESET]);
     let refusals = [
@@ -48,12 +51,8 @@ fn each_refusal_has_its_number_and_words() {
         ),
         (lent::deliver(&mut [], &mut row, &[]), 2, "the queue is not 1 to 4,096 bytes"),
         (lent::drain(&[0; 65_537], &mut row, &mut []).map(drop), 3, "the output record is over 65,536 bytes"),
-        (lent::set_register(&mut row[..15], Register::A, 0), 4, "the row is not 16 numbers"),
-        (
-            lent::set_register(&mut [1, 2, 3, 0, 0, 0, 0, 0, 0, 0, 0, 0, 0, 0, 0, 0], Register::A, 0),
-            4,
-            "the row's number 1 is out of its range",
-        ),
+        (lent::set_register(&mut row[1..], Register::A, 0), 4, "the row is not 16 numbers"),
+        (lent::set_register(&mut damaged, Register::A, 0), 4, "the row's number 1 is out of its range"),
         (lent::read_cell(&[[-1, 0, 0]; 256].concat(), 7).map(drop), 5, "the cell at 7 is damaged"),
         (m.deliver(b"12345"), 6, "more bytes than the queue has free places"),
         (m.cell(2048).map(drop), 8, "the address is outside the cells"),
@@ -68,7 +67,7 @@ fn each_refusal_has_its_number_and_words() {
         let refusal = answer.unwrap_err();
         assert_eq!((refusal.number(), refusal.to_string().as_str()), (number, words));
     }
-    row[15] = 3;
+    row[at::OUTPUT_COUNT] = 3;
     let refusal = lent::drain(&[1, 2, 3], &mut row, &mut [0; 2]).unwrap_err();
     assert_eq!((refusal, refusal.number()), (Refusal::Drain, 7));
     assert_eq!(Refusal::Code.number(), 11);
@@ -135,8 +134,8 @@ fn each_stop_has_its_number_and_words() {
     assert_eq!((ran.stop, ran.stop.number()), (Stop::CellError, 3));
     assert_eq!(ran.stop.to_string(), "a word or address that the instruction cannot take");
     assert_eq!((Stop::CyclesFull.number(), Stop::CyclesFull.to_string().as_str()), (7, "cycle count full"));
-    let mut row = vec![0; 16];
-    row[9] = i64::MAX;
+    let mut row = vec![0; ROW_LENGTH];
+    row[at::CYCLES] = i64::MAX;
     let mut cells = [NOP.numbers(); 256].concat();
     assert_eq!(lent::run(&mut cells, &mut [0], &mut [], &mut row, 1).unwrap().stop, Stop::CyclesFull);
 }

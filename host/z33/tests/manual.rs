@@ -4,7 +4,8 @@
 
 use std::collections::{BTreeMap, BTreeSet};
 
-use z33::{Cell, Exception, NEGATIVE, OVERFLOW, SUPERVISOR, Stop, ZERO, lent};
+use layout::{at, row};
+use z33::{Cell, Exception, NEGATIVE, OVERFLOW, ROW_LENGTH, SUPERVISOR, Stop, ZERO, lent};
 
 const CELLS: usize = 256;
 /// Where the instruction that is tried stands. No exception has a handler, so a step that completes has entered none.
@@ -161,7 +162,10 @@ fn try_once(draws: &mut Draws, cell: [i64; 3], registers: [u64; 2], due: u64, me
     let sp = [0, 5, 255, 256, u32::MAX as i64][draws.below(5)];
     let flags = (draws.below(8) as i64) << 1;
     let sr = if draws.below(3) == 0 { flags } else { flags | SUPERVISOR };
-    let mut row = [a[0], a[1], a[2], b[0], b[1], b[2], HERE as i64, sp, sr, 0, 0, 0, 0, 0, 0, 0];
+    let mut row = [0; ROW_LENGTH];
+    row::put_cell(&mut row, at::A, a);
+    row::put_cell(&mut row, at::B, b);
+    [row[at::PC], row[at::SP], row[at::SR]] = [HERE as i64, sp, sr];
     let mut output = vec![0; draws.below(2)];
     let ran = lent::run(&mut cells, &mut [0; 1], &mut output, &mut row, 1).unwrap();
     if ran.steps == 0 {
@@ -171,12 +175,12 @@ fn try_once(draws: &mut Draws, cell: [i64; 3], registers: [u64; 2], due: u64, me
         };
         return;
     }
-    assert_eq!(row[9] as u64, due, "cycles of {cell:?}");
+    assert_eq!(row[at::CYCLES] as u64, due, "cycles of {cell:?}");
     met.cycles.insert(due);
     if !registers.contains(&SR) {
-        met.set |= !sr & row[8];
-        met.cleared |= sr & !row[8];
-        met.changed |= sr ^ row[8];
+        met.set |= !sr & row[at::SR];
+        met.cleared |= sr & !row[at::SR];
+        met.changed |= sr ^ row[at::SR];
     }
 }
 
