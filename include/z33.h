@@ -1,4 +1,4 @@
-/* The proved Z33 for C and C++: its eight calls over memory that the caller owns and lends for the length of a call.
+/* The proved Z33 for C and C++: its calls over memory that the caller owns and lends for the length of a call.
  *
  * Lent are: cells, three numbers each (tag, first, second); the row of 16 numbers (a, b, pc, sp, sr, cycles, the console's marks and
  * counts); the input queue and the output record, as bytes. Each comes as a pointer and a count of elements (numbers or bytes, not
@@ -133,6 +133,7 @@ enum {
 typedef struct { uint64_t refusal, place; } z33_done;
 typedef struct { uint64_t refusal, place, stop, detail, steps; } z33_ran;
 typedef struct { uint64_t refusal, place, count; } z33_drained;
+typedef struct { uint64_t refusal, place, count; } z33_counted;
 typedef struct { uint64_t refusal, place; int64_t tag, first, second; } z33_cell;
 typedef struct { uint64_t refusal, place, stop, detail; } z33_raised; /* stop 0: the exception was entered */
 
@@ -164,6 +165,9 @@ z33_done z33_set_register(int64_t *row, size_t row_len, uint64_t reg, int64_t wo
 
 /* Enters the exception of a code 0 to 5, for one cycle; or stop 2 or 7, and then nothing has changed. */
 z33_raised z33_raise(int64_t *cells, size_t cells_len, int64_t *row, size_t row_len, uint64_t code);
+
+/* Fills an image with sound instructions drawn from a seed; count is of cells. Refusal 9: the image is no whole number of cells. */
+z33_counted z33_exercise(int64_t *image, size_t image_len, uint64_t seed);
 
 #ifdef __cplusplus
 }

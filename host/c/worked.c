@@ -60,6 +60,12 @@ static void other_calls(void) {
     uint8_t buffer[1] = {7};
     z33_drained drained = z33_drain(output, OUTPUT, row, ROW, buffer, 1);
     due(drained.refusal == 0 && drained.count == 0 && buffer[0] == 7, "drain gave something");
+    int64_t made[6];
+    z33_counted counted = z33_exercise(made, 6, 0);
+    due(counted.refusal == 0 && counted.count == 2 && made[0] == 2572 && made[1] == 14370 && made[3] == 17602,
+        "the exercise load of seed 0 is another");
+    is_done(z33_load(cells, 3 * CELLS, made, 6, 0), "the exercise load was refused");
+    due(z33_exercise(made, 5, 0).refusal == 9, "five numbers were taken for cells");
 }
 
 static void null_is_refused(void) {
@@ -85,6 +91,7 @@ static void null_is_taken(void) {
     is_done(z33_deliver(queue, QUEUE, row, ROW, NULL, 0), "no bytes were refused");
     due(z33_drain(NULL, 0, row, ROW, NULL, 0).refusal == 0, "drain without an output record");
     is_done(z33_load(cells, NUMBERS, NULL, 0, CELLS - 1), "an empty image was refused");
+    due(z33_exercise(NULL, 0, 1).refusal == 0, "an empty image was not filled");
 }
 
 int main(void) {

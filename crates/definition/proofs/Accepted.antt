@@ -23,6 +23,8 @@ use Rattle.definition.specs.Runtime.{Machine, with-core, with-cycles, wi
 use Rattle.definition.specs.Calls.{Lent, lentMachine, lentOf, Called, passes, runCheck, ran, runRefused, runCall}
 use Rattle.definition.specs.UserMode.{Accepted}
 use Rattle.definition.specs.Accepted.{Sound, AcceptedCore, ConsoleIn, AcceptedMachine, laterCall, RunsAccepted}
+-- Not cited: the table is proved first, so that a wrong rule is refused at a row that shows it.
+use Rattle.definition.proofs.Course.{course}
 use Rattle.definition.proofs.Keeps.{Good, k-set, attempt-keeps}
 use Rattle.definition.proofs.AcceptedCore.{any-laws, word-sound}
 use Rattle.definition.proofs.UserStep.{entered-accepted}

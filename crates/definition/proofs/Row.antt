@@ -71,7 +71,7 @@ sound-damage (t ∷ f ∷ s ∷ l) k (suc c) e h =
 
 -- ---- the numbers of an accepted row
 
-below-in : (n : ℕ) (z : ℤ) → isBelow n z ≡ true → Below n z
+pub below-in : (n : ℕ) (z : ℤ) → isBelow n z ≡ true → Below n z
 unfolding isBelow
 below-in n (pos k) h = (refl, ltb-true k n h)
 below-in n (negsuc k) h = absurd (true≢false (sym h))

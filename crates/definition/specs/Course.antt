@@ -179,13 +179,10 @@ shown look r =
     let row = r .left .row in
     record { refusal = r .answer .refusal; stop = r .answer .stop; detail = r .answer .detail; steps = r .answer .steps; pc = at ROW-PC row; sp = at ROW-SP row; sr = at ROW-SR row; cycles = at ROW-CYCLES row; pending = at ROW-PENDING row; written = at ROW-WRITTEN row; a = cellOfRow ROW-A row; b = cellOfRow ROW-B row; there = cellAt (r .left .cells) look }
 
-unfoldable pub results : List Row → List Shown
-results [] = []
-results (r ∷ rs) = shown (r .given .look) (runCall (r .given .budget) (lentCase (r .given))) ∷ results rs
-
-unfoldable pub expectations : List Row → List Shown
-expectations [] = []
-expectations (r ∷ rs) = r .expected ∷ expectations rs
+-- Each row shows what it should.
+unfoldable pub Shows : List Row → Type 0
+Shows [] = Unit {0}
+Shows (r ∷ rs) = (shown (r .given .look) (runCall (r .given .budget) (lentCase (r .given))) ≡ r .expected) × Shows rs
 
 abbrev pub Course : Type 0
-Course = results table ≡ expectations table
+Course = Shows table

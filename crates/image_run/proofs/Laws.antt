@@ -2,13 +2,12 @@
 use mathlib.Core.Path.{_≡_, sym, ap, _∙_}
 use mathlib.Core.List.{List, foldl}
 use Prim.Native.Nat.{ℕ, _<_}
-use lib.IntN.{ℤ, pos}
-use lib.ListN.{replicate}
+use lib.IntN.{ℤ}
 use borrow.Author.Tests.{lt-ltb}
 use Rattle.definition.specs.declared.Ran.{Ran}
 use Rattle.lines.specs.Reader.{State, state, step, opened, emptyCells, readText, brokenLine}
 use Rattle.report.specs.Text.{runText, refusalText}
-use Rattle.image_run.specs.Image.{startRow, imageRun, imageText, reportText, printed, cellsLeft}
+use Rattle.image_run.specs.Image.{imageRow, imageRun, imageText, reportText, printed, cellsLeft}
 
 pub refused-report : (s : State) (n : ℕ) → n ≡ brokenLine (s .reader) → 0 < n → reportText s ≡ refusalText n
 unfolding reportText
@@ -18,7 +17,7 @@ pub image-report : (s : State) → brokenLine (s .reader) ≡ 0 → reportText s
 unfolding reportText
 image-report s e = rw e
 
-pub run-report : (s : State) (row left : List ℤ) (ran : Ran) → brokenLine (s .reader) ≡ 0 → row ≡ startRow (replicate 16 (pos 0)) (s .reader .start) → ran ≡ imageRun (s .cells) row .answer → left ≡ imageRun (s .cells) row .left .row → runText ran left ≡ reportText s
+pub run-report : (s : State) (row left : List ℤ) (ran : Ran) → brokenLine (s .reader) ≡ 0 → row ≡ imageRow (s .reader .start) → ran ≡ imageRun (s .cells) row .answer → left ≡ imageRun (s .cells) row .left .row → runText ran left ≡ reportText s
 unfolding imageText
 run-report s row left ran z e a l = rw (a, l, e) (sym (image-report s z))
 
@@ -26,7 +25,7 @@ pub refused-cells : (s : State) (n : ℕ) → n ≡ brokenLine (s .reader) → 0
 unfolding cellsLeft
 refused-cells s n e h = rw (← e, lt-ltb 0 n h)
 
-pub run-cells : (s : State) (row left : List ℤ) → brokenLine (s .reader) ≡ 0 → row ≡ startRow (replicate 16 (pos 0)) (s .reader .start) → left ≡ imageRun (s .cells) row .left .cells → left ≡ cellsLeft s
+pub run-cells : (s : State) (row left : List ℤ) → brokenLine (s .reader) ≡ 0 → row ≡ imageRow (s .reader .start) → left ≡ imageRun (s .cells) row .left .cells → left ≡ cellsLeft s
 unfolding cellsLeft
 run-cells s row left z e l = rw (l, e, z)
 

@@ -1,24 +1,26 @@
 // An image that was read, run as document 01's runner runs it, and what is printed of it.
 use definition::Ran;
+use definition::places;
 use lines::Reader;
 use lines::Start;
 ghost use mathlib.Core.Path.{_≡_};
 ghost use lib.ListN.{length, take};
+ghost use Rattle.definition.specs.Constants.{ROW};
 ghost use Rattle.io.specs.Counts.{Counts};
 ghost use Rattle.lines.specs.Reader.{state};
 ghost use Rattle.image_run.specs.Image.{startRow, imageRun, reportText, cellsLeft};
 
 // "start,pc,sp,sr" in a row of zeros.
 pub fn put_start(row: &mut [i64], s: Start)
-    requires { ⌜ length (now row) ≡ 16 ⌝ }
+    requires { ⌜ length (now row) ≡ ROW ⌝ }
     ensures { λ r. ⌜ now (row .exit) ≡ startRow (now (row .entry)) s ⌝ }
 {
     let pc = s.pc;
     let sp = s.sp;
     let sr = s.sr;
-    row[6] = pc;
-    row[7] = sp;
-    row[8] = sr;
+    row[places::PC] = pc;
+    row[places::SP] = sp;
+    row[places::SR] = sr;
 }
 
 // "queue 256, output 4,096, budget 100,000"
@@ -41,7 +43,7 @@ pub fn put_report(cells: &mut [i64], r: Reader, out: &mut [u8]) -> usize
     if 0 < line {
         return report::put_refusal(out, line);
     }
-    let mut row = [0i64; 16];
+    let mut row = [0i64; places::ROW];
     let s = r.start;
     put_start(&mut row, s);
     let ran = run_image(cells, &mut row);

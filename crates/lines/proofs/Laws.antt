@@ -1,15 +1,15 @@
 -- How the reader's definition moves. Assumes nothing.
 use mathlib.Core.Path.{_≡_, refl, ap, _∙_}
-use mathlib.Core.Bool.{Bool, true, false, false≢true, _&&_}
+use mathlib.Core.Bool.{Bool, true, false, _&&_}
 use Prim.Native.Nat.{ℕ, zero, suc, _+_, _≤_, _<_}
 use mathlib.Core.List.{List, foldl}
 use native.Mathlib.Omega.{arith}
 use native.Mathlib.Numerals.{add-one}
 use lib.ListN.{length, drop, getD, replicate}
 use lib.Seq.{drop-cons, drop-length}
-use lib.IntN.{ℤ, pos, negsuc, natAbs}
+use lib.IntN.{ℤ, pos, natAbs}
 use lib.Dec.{eqb}
-use borrow.Author.Tests.{ltb-true, eq-eqb, ne-eqb}
+use borrow.Author.Tests.{eq-eqb, ne-eqb}
 use Rattle.definition.specs.Memory.{putCell}
 use Rattle.definition.specs.Encoding.{sound}
 use Rattle.definition.specs.Calls.{isBelow}
@@ -41,11 +41,6 @@ fold-more t i s u h e = rw (add-one, drop-cons t i 0 h, e)
 
 pub fold-end : (t : List ℕ) (i : ℕ) (s : State) → i ≡ length t → s ≡ foldl step s (drop i t)
 fold-end t i s e = rw (e, drop-length)
-
-pub below-in : (n : ℕ) (z : ℤ) → isBelow n z ≡ true → natAbs z < n
-unfolding isBelow
-below-in n (pos k) e = ltb-true k n e
-below-in n (negsuc k) e = absurd (false≢true e)
 
 -- the ends of a line
 module _ (r : Reader) (l : List ℤ) where

@@ -3,6 +3,7 @@ use console::ConsoleState;
 use definition::Cell;
 use definition::Marks;
 use definition::Registers;
+use definition::places;
 ghost use mathlib.Core.Path.{_≡_};
 ghost use mathlib.Core.List.{[]};
 ghost use Prim.Native.Nat.{_+_, _<_, _^_};
@@ -49,12 +50,12 @@ pub fn registers(row: &[i64]) -> Registers
     requires { ⌜ (length (now row) ≡ ROW) × (Below (2 ^ 32) (at ROW-PC (now row)) × Below (2 ^ 32) (at ROW-SP (now row))) ⌝ }
     ensures { λ r. ⌜ r ≡ registersOf (now (row .entry)) ⌝ }
 {
-    let sr = row[8];
+    let sr = row[places::SR];
     Registers {
-        a: cell_at(row, 0),
-        b: cell_at(row, 3),
-        pc: number_at(row, 6) as u32,
-        sp: number_at(row, 7) as u32,
+        a: cell_at(row, places::A),
+        b: cell_at(row, places::B),
+        pc: number_at(row, places::PC) as u32,
+        sp: number_at(row, places::SP) as u32,
         sr,
     }
 }
@@ -64,9 +65,9 @@ pub fn marks(row: &[i64]) -> Marks
     ensures { λ r. ⌜ r ≡ marksOf (now (row .entry)) ⌝ }
 {
     Marks {
-        enable: mark_at(row, 10),
-        flag: mark_at(row, 11),
-        pending: mark_at(row, 12),
+        enable: mark_at(row, places::ENABLE),
+        flag: mark_at(row, places::FLAG),
+        pending: mark_at(row, places::PENDING),
     }
 }
 
@@ -76,9 +77,9 @@ pub fn console_state(row: &[i64]) -> ConsoleState
 {
     ConsoleState {
         marks: marks(row),
-        start: number_at(row, 13) as usize,
-        count: number_at(row, 14) as usize,
-        written: number_at(row, 15) as usize,
+        start: number_at(row, places::START) as usize,
+        count: number_at(row, places::COUNT) as usize,
+        written: number_at(row, places::WRITTEN) as usize,
     }
 }
 
@@ -116,10 +117,10 @@ pub fn put_numbers(row: &mut [i64], s: Registers, cycles: u64)
     let sp = s.sp as i64;
     let sr = s.sr;
     let spent = cycles as i64;
-    row[6] = pc;
-    row[7] = sp;
-    row[8] = sr;
-    row[9] = spent;
+    row[places::PC] = pc;
+    row[places::SP] = sp;
+    row[places::SR] = sr;
+    row[places::CYCLES] = spent;
 }
 
 pub fn put_marks(row: &mut [i64], k: Marks)
@@ -129,9 +130,9 @@ pub fn put_marks(row: &mut [i64], k: Marks)
     let enable = mark_number(k.enable);
     let flag = mark_number(k.flag);
     let pending = mark_number(k.pending);
-    row[10] = enable;
-    row[11] = flag;
-    row[12] = pending;
+    row[places::ENABLE] = enable;
+    row[places::FLAG] = flag;
+    row[places::PENDING] = pending;
 }
 
 pub fn put_console(row: &mut [i64], k: ConsoleState)
@@ -141,9 +142,9 @@ pub fn put_console(row: &mut [i64], k: ConsoleState)
     let start = k.start as i64;
     let count = k.count as i64;
     let written = k.written as i64;
-    row[13] = start;
-    row[14] = count;
-    row[15] = written;
+    row[places::START] = start;
+    row[places::COUNT] = count;
+    row[places::WRITTEN] = written;
 }
 
 // The whole row anew.
@@ -154,8 +155,8 @@ pub fn write_row(row: &mut [i64], s: Registers, cycles: u64, k: ConsoleState)
     let a = s.a;
     let b = s.b;
     let marks = k.marks;
-    put_cell(row, 0, a);
-    put_cell(row, 3, b);
+    put_cell(row, places::A, a);
+    put_cell(row, places::B, b);
     put_numbers(row, s, cycles);
     put_marks(row, marks);
     put_console(row, k);
@@ -169,8 +170,8 @@ pub fn put_delivered(row: &mut [i64], n: usize)
     let k = marks::input_pushed(marks(row), n);
     let flag = mark_number(k.flag);
     let pending = mark_number(k.pending);
-    let count = (number_at(row, 14) + n as u64) as i64;
-    row[11] = flag;
-    row[12] = pending;
-    row[14] = count;
+    let count = (number_at(row, places::COUNT) + n as u64) as i64;
+    row[places::FLAG] = flag;
+    row[places::PENDING] = pending;
+    row[places::COUNT] = count;
 }

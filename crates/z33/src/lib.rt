@@ -1,4 +1,6 @@
-// The calls of document 01 on numbers and slices, as exported C functions. Each answers and leaves what the definition's Calls says.
+// The calls on numbers and slices, as exported C functions. Each answers and leaves what the definition's Calls says; the exercise load's is Exercise, in
+// crates/exercise/specs.
+use definition::places;
 use runtime::State;
 ghost use mathlib.Core.Path.{_≡_};
 ghost use Prim.Native.Nat.{_<_, _^_};
@@ -9,6 +11,7 @@ ghost use Rattle.definition.specs.Accepted.{Below};
 ghost use Rattle.z33.specs.Meaning.{rowState};
 
 pub mod cells;
+pub mod fill;
 pub mod fresh;
 pub mod raise;
 pub mod register;
@@ -22,7 +25,7 @@ fn state(row: &[i64]) -> State
 {
     State {
         s: row::registers(row),
-        cycles: row::number_at(row, 9),
+        cycles: row::number_at(row, places::CYCLES),
         k: row::console_state(row),
     }
 }

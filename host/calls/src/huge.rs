@@ -79,6 +79,7 @@ fn refused(zeros: &mut Zeros) -> Vec<Looked> {
     let ran = |answer: z33::Ran| (answer.refusal, answer.place);
     let drained = |answer: z33::Drained| (answer.refusal, answer.place);
     let raised = |answer: z33::Raised| (answer.refusal, answer.place);
+    let counted = |answer: z33::Counted| (answer.refusal, answer.place);
     let read = z33::read_cell(&*zeros.numbers(CELLS), 0);
     vec![
         ("fresh, cells", done(z33::fresh(zeros.numbers(CELLS), &mut *row)), (1, 0)),
@@ -98,6 +99,8 @@ fn refused(zeros: &mut Zeros) -> Vec<Looked> {
         ("set register, row", done(z33::set_register(zeros.numbers(PAST + ROW), 0, 0)), (4, 0)),
         ("raise, cells", raised(z33::raise(zeros.numbers(CELLS), &mut *row, 0)), (1, 0)),
         ("raise, row", raised(z33::raise(&mut *cells, zeros.numbers(PAST + ROW), 0)), (4, 0)),
+        // 2^32 is no multiple of 3: only the length's low 32 bits would be whole cells
+        ("exercise, image", counted(z33::exercise(zeros.numbers(PAST + cell::LENGTH), 0)), (9, 0)),
     ]
 }
 

@@ -191,6 +191,14 @@ impl Coverage {
         (pairs, missing)
     }
 
+    /// The count of forms (the fetch apart) with any outcome, and how often the least of these was taken.
+    pub fn forms_taken(&self) -> (usize, u64) {
+        let all = &self.counts[..self.counts.len() - 1];
+        let taken: Vec<u64> =
+            all.iter().map(|counts| counts.iter().sum()).filter(|times| *times > 0).collect();
+        (taken.len(), taken.iter().copied().min().unwrap_or(0))
+    }
+
     /// The count of forms reached, outcome by outcome.
     pub fn summary(&self) -> String {
         let reached = |column: usize| self.counts.iter().filter(|counts| counts[column] > 0).count();

@@ -40,10 +40,7 @@ pub fn draw(rng: &mut Rng) -> Case {
 }
 
 pub fn put_code(rng: &mut Rng, layout: &Layout, case: &mut Case) {
-    for i in 0..16 {
-        let held = if rng.once_in(layout.any_once_in) { cell(rng) } else { [1, near(rng, layout), 0] };
-        case.put((layout.data + i) as usize, held);
-    }
+    put_data(rng, layout, case);
     for i in 0..layout.length {
         let line = line(rng, layout);
         case.put((layout.code + i) as usize, line);
@@ -53,6 +50,13 @@ pub fn put_code(rng: &mut Rng, layout: &Layout, case: &mut Case) {
         0 => case.put(last, instruction(RESET, NONE, NONE)),
         1 | 2 => case.put(last, instruction(JMP, imm(layout.code), NONE)),
         _ => {}
+    }
+}
+
+pub fn put_data(rng: &mut Rng, layout: &Layout, case: &mut Case) {
+    for i in 0..16 {
+        let held = if rng.once_in(layout.any_once_in) { cell(rng) } else { [1, near(rng, layout), 0] };
+        case.put((layout.data + i) as usize, held);
     }
 }
 
@@ -78,7 +82,7 @@ pub fn put_handler(rng: &mut Rng, layout: &Layout, case: &mut Case) {
     }
 }
 
-fn put_row(rng: &mut Rng, layout: &Layout, case: &mut Case) {
+pub fn put_row(rng: &mut Rng, layout: &Layout, case: &mut Case) {
     let row = &mut case.row;
     for place in [at::A, at::B] {
         let held = if rng.once_in(4) { cell(rng) } else { cell_of(near(rng, layout)) };
@@ -93,7 +97,7 @@ fn put_row(rng: &mut Rng, layout: &Layout, case: &mut Case) {
     }
 }
 
-fn put_console(rng: &mut Rng, case: &mut Case) {
+pub fn put_console(rng: &mut Rng, case: &mut Case) {
     let queue = rng.pick(&[1, 2, 7, 16]);
     let output = rng.pick(&[0, 3, 64, 64]);
     case.queue = (0..queue).map(|_| rng.byte()).collect();
@@ -137,7 +141,7 @@ pub fn other_call(rng: &mut Rng) -> Call {
 }
 
 /// A word that is useful as an address of data or code, or as a small number.
-fn near(rng: &mut Rng, layout: &Layout) -> i64 {
+pub fn near(rng: &mut Rng, layout: &Layout) -> i64 {
     match rng.below(4) {
         0 => layout.data + rng.between(0, 15),
         1 => layout.code + rng.between(0, layout.length - 1),

@@ -1,4 +1,4 @@
-//! The eight calls over slices. `None` lends a null pointer with length 0, as a C caller may.
+//! The calls over slices. `None` lends a null pointer with length 0, as a C caller may.
 //!
 //! Each is safe: the library takes any length and any contents, and a slice's memory is its own for the call.
 
@@ -6,7 +6,7 @@ use std::ptr::{null, null_mut};
 
 use z33_sys as c;
 
-use crate::{Cell, Done, Drained, Raised, Ran};
+use crate::{Cell, Counted, Done, Drained, Raised, Ran};
 
 pub fn fresh<'a>(cells: impl Into<Option<&'a mut [i64]>>, row: impl Into<Option<&'a mut [i64]>>) -> Done {
     let ((cells, cells_len), (row, row_len)) = (lend(cells), lend(row));
@@ -71,6 +71,11 @@ pub fn raise<'a>(
 ) -> Raised {
     let ((cells, cells_len), (row, row_len)) = (lend(cells), lend(row));
     unsafe { c::z33_raise(cells, cells_len, row, row_len, code) }
+}
+
+pub fn exercise<'a>(image: impl Into<Option<&'a mut [i64]>>, seed: u64) -> Counted {
+    let (image, image_len) = lend(image);
+    unsafe { c::z33_exercise(image, image_len, seed) }
 }
 
 /// Pointer and length of what is lent to be changed.

@@ -40,6 +40,18 @@ pub struct z33_drained {
     pub count: u64,
 }
 
+/// How much a call wrote.
+#[repr(C)]
+#[derive(Clone, Copy, Debug, Default, PartialEq, Eq)]
+pub struct z33_counted {
+    /// 0, or the refusal's number.
+    pub refusal: u64,
+    /// Where what was refused is, or 0.
+    pub place: u64,
+    /// How many cells were made.
+    pub count: u64,
+}
+
 /// A cell that was read.
 #[repr(C)]
 #[derive(Clone, Copy, Debug, Default, PartialEq, Eq)]
@@ -72,5 +84,5 @@ pub struct z33_raised {
 
 const _: () = {
     assert!(size_of::<z33_done>() == 16 && size_of::<z33_ran>() == 40 && size_of::<z33_drained>() == 24);
-    assert!(size_of::<z33_cell>() == 40 && size_of::<z33_raised>() == 32);
+    assert!(size_of::<z33_counted>() == 24 && size_of::<z33_cell>() == 40 && size_of::<z33_raised>() == 32);
 };

@@ -1,7 +1,7 @@
 //! The functions of include/z33.h, in its order. Each buffer is a pointer and a count of elements, and the pointer may be null where the
 //! count is 0; buffers of one call do not overlap.
 
-use crate::answers::{z33_cell, z33_done, z33_drained, z33_raised, z33_ran};
+use crate::answers::{z33_cell, z33_counted, z33_done, z33_drained, z33_raised, z33_ran};
 
 unsafe extern "C" {
     /// Makes all cells empty and the row 0, whatever they held.
@@ -63,4 +63,7 @@ unsafe extern "C" {
         row_len: usize,
         code: u64,
     ) -> z33_raised;
+
+    /// Fills an image with sound instructions drawn from a seed.
+    pub fn z33_exercise(image: *mut i64, image_len: usize, seed: u64) -> z33_counted;
 }

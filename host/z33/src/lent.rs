@@ -79,6 +79,13 @@ pub fn load(cells: &mut [i64], image: &[i64], start: u64) -> Result<(), Refusal>
     Refusal::check(done.refusal, done.place)
 }
 
+/// Fills an image with sound instructions drawn from a seed, and tells how many cells that were.
+pub fn exercise(image: &mut [i64], seed: u64) -> Result<u64, Refusal> {
+    let counted = unsafe { z33_sys::z33_exercise(image.as_mut_ptr(), image.len(), seed) };
+    Refusal::check(counted.refusal, counted.place)?;
+    Ok(counted.count)
+}
+
 /// Sets a, b, pc or sp to a word. sr is refused: whoever boots a machine writes it into the row, at place 8 from 0.
 pub fn set_register(row: &mut [i64], register: Register, word: i64) -> Result<(), Refusal> {
     let done = unsafe { z33_sys::z33_set_register(row.as_mut_ptr(), row.len(), register.number(), word) };

@@ -5,10 +5,11 @@ use mathlib.Core.Bool.{true, false}
 use lib.IntN.{natAbs}
 use Rattle.definition.specs.Calls.{isBelow}
 use Rattle.definition.specs.Encoding.{sound}
+use Rattle.definition.proofs.Row.{below-in}
 use Rattle.word.proofs.Laws.{back}
 use Rattle.lines.specs.declared.Reader.{Reader}
 use Rattle.lines.specs.Reader.{lineCell, state}
-use Rattle.lines.proofs.Laws.{below-in, cell-put, cell-damaged, cell-outside}
+use Rattle.lines.proofs.Laws.{cell-put, cell-damaged, cell-outside}
 use borrow.Author.Needs.{needs}
 use Rattle.lines.proofs.line.take_cell.Statement.{statement}
 use Rattle.lines.proofs.line.take_cell.Tie as tie
@@ -40,7 +41,7 @@ put-cell-requires c κs = let a = c .before .before .before .before .before .bef
     let b = back x (c .before .before .before .before .before .before .before .struct-told .given .0 .1) in
     let t : isBelow 2048 x ≡ true = ap (isBelow 2048) (sym b) ∙ sym (c .before .before .before .before .before .is-below .ensures) ∙ c .before .before .before .before .if1 .taken in
     let n : c .before .magnitude .result ≡ natAbs x = c .before .magnitude .ensures ∙ ap natAbs b in
-    let h = below-in 2048 x t in
+    let h = below-in 2048 x t .1 in
     let p = c .before .before .before .before .before .before .before .before .before .pre in
     omega arith
 
