@@ -20,6 +20,7 @@ use Rattle.definition.specs.Encoding.{opAt}
 use Rattle.definition.specs.Instructions.{execute, jump, jumpIf, reset, nothing, quiet}
 use Rattle.registers.specs.declared.Put.{Put}
 use Rattle.registers.specs.Meaning.{settled, result, answer, putRes}
+use Rattle.word.proofs.Arms.{Skips, past, under}
 use Rattle.arguments.specs.declared.Arg.{Arg}
 use Rattle.arguments.specs.Operands.{argOf}
 use Rattle.arguments.specs.declared.taken.CellTaken.{CellTaken}
@@ -91,20 +92,6 @@ test-else o z n h₁ h₂ h₃ h₄ h₅ h₆ = go (o - 7) refl
 -- a number that a test refuses is none that it takes
 not-in : (f : ℕ → Bool) (n k : ℕ) → f n ≡ false → f k ≡ true → n ≡ k → ⊥
 not-in f n k h e x = true≢false (sym e ∙ ap f (sym x) ∙ h)
-
--- P, and o is none of the k numbers from n on: so the last arm of a match has the numbers of the arms before it
-abbrev Skips : Type 0 → ℕ → ℕ → ℕ → Type 0
-Skips P zero n o = P
-Skips P (suc k) n o = Skips P k n o × (o ≡ n + k → ⊥)
-
-module _ (P : Type 0) (n o : ℕ) where
-  past : (k : ℕ) → n ≤ o → Skips P k n o → n + k ≤ o
-  past zero h s = omega arith
-  past (suc k) h s = let p = past k h (s .0) in let e = s .1 in omega arith
-
-  under : (k : ℕ) → o < n + k → Skips P k n o → (o < n) × P
-  under zero h s = (omega arith, s)
-  under (suc k) h s = let e = s .1 in under k (omega arith) (s .0)
 
 -- what is left beside 0 to 5, 14 to 19, 21 to 32 and the two that ask
 pub jumps-left : (o : ℕ) → o < 33 → asker o ≡ false → Skips (Skips (Skips (Unit {0}) 6 0 o) 6 14 o) 12 21 o → (7 ≤ o) × (o < 14)
