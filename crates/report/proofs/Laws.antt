@@ -124,7 +124,7 @@ numeral-pos n = refl
 
 -- ---- 512 bytes hold every text
 
-decimal-short : (k n : ℕ) → length (decimalIn k n) ≤ k
+pub decimal-short : (k n : ℕ) → length (decimalIn k n) ≤ k
 unfolding decimalIn
 decimal-short zero n = omega arith
 decimal-short (suc k) n =
