@@ -6,12 +6,14 @@ use Prim.Native.Nat.{ℕ, _≤_}
 use native.Mathlib.Omega.{arith}
 use lib.Dec.{ltb, eqb}
 use lib.IntN.{ℤ, pos}
+use lib.ListN.{length, replicate}
 use lib.Signed.{ltZ}
 use borrow.Author.Tests.{ltb-false}
 use Rattle.definition.specs.declared.Address.{Address}
 use Rattle.definition.specs.declared.Address.the-variants as A
 use Rattle.definition.specs.Word.{addressOf}
-use Rattle.definition.specs.Calls.{Lent}
+use Rattle.definition.specs.Constants.{ROW}
+use Rattle.definition.specs.Calls.{Lent, called, accepted, passes, verdict, cellsTest, lengthTest, freshCheck, fresh}
 use Rattle.recorded.specs.declared.reader.Line.{Line}
 use Rattle.recorded.specs.declared.reader.Fed.{Fed}
 use Rattle.recorded.specs.declared.reader.Fed.the-variants as Fd
@@ -72,3 +74,12 @@ module _ (k : ℕ) (l : Line) (w : Replay) (a : eqb k 1 ≡ false) (b : (ltb 1 k
   pub other-done : eqb k 29 ≡ false → kindDone k l w ≡ withState w (otherLine (w .state) k l)
   unfolding kindDone
   other-done f = rw (a, b, c, d, e, f)
+
+-- fresh accepts arrays of the replay's lengths
+fresh-passes : (cells row : List ℤ) → length cells ≡ 30000 → length row ≡ ROW → passes (freshCheck cells row) ≡ true
+unfolding freshCheck verdict cellsTest lengthTest
+fresh-passes cells row h k = rw (h, k)
+
+pub fresh-clears : (cells row : List ℤ) → length cells ≡ 30000 → length row ≡ ROW → fresh cells row ≡ called accepted (replicate (length cells) (pos 0), replicate (length row) (pos 0))
+unfolding fresh
+fresh-clears cells row h k = rw (fresh-passes cells row h k, k)

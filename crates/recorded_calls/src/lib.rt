@@ -260,8 +260,7 @@ fn open(
 ) -> State
     ensures { λ r. ⌜ both r (lent (now (cells .exit)) (now (queue .exit)) (now (output .exit)) (now (row .exit))) (lent (now («due_cells» .exit)) (now («due_queue» .exit)) (now («due_output» .exit)) (now («due_row» .exit))) ≡ openLine l (both s (lent (now (cells .entry)) (now (queue .entry)) (now (output .entry)) (now (row .entry))) (lent (now («due_cells» .entry)) (now («due_queue» .entry)) (now («due_output» .entry)) (now («due_row» .entry)))) ⌝ }
 {
-    calls::fresh::clear(cells);
-    calls::fresh::clear(row);
+    z33::fresh::z33_fresh(cells, row);
     calls::fresh::clear(due_cells);
     calls::fresh::clear(due_row);
     recorded::clear::clear_bytes(queue);

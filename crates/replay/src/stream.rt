@@ -6,15 +6,14 @@ use recorded_calls::act::take_byte;
 use recorded_cases::state::State;
 use recorded_cases::state::text_end;
 ghost use mathlib.Core.Path.{_≡_};
-ghost use mathlib.Core.List.{List, foldl};
-ghost use Prim.Native.Nat.{ℕ};
-ghost use lib.ListN.{take};
+ghost use mathlib.Core.List.{foldl};
 ghost use Rattle.io.specs.Counts.{Counts};
 ghost use Rattle.definition.specs.Calls.{lent};
 ghost use Rattle.recorded.specs.Reader.{noLine};
 ghost use Rattle.recorded_cases.specs.Room.{Fits};
 ghost use Rattle.recorded_cases.specs.Case.{started};
-ghost use Rattle.recorded_calls.specs.Replay.{replay, reading, byteTaken, atEnd, printed};
+ghost use Rattle.recorded_calls.specs.Replay.{replay, reading, byteTaken};
+ghost use Rattle.replay.specs.Input.{TextReplayed, Reported};
 
 fn at_start() -> Progress
     ensures { λ r. ⌜ (r .reader ≡ noLine) × (r .state ≡ started) ⌝ }
@@ -69,7 +68,7 @@ fn take_part(
     p
 }
 
-// All of the input, whatever it is; no input uses up so many turns.
+// All of the input, whatever it is: no contract can say which bytes a read gives. No input uses up so many turns.
 fn take_all(
     cells: &mut [i64; 30000],
     due_cells: &mut [i64; 30000],
@@ -83,7 +82,7 @@ fn take_all(
     buffer: &mut [u8; 128],
     due_buffer: &mut [u8; 128],
 ) -> State
-    ensures { λ r. ⌜ (text : List ℕ) × (r ≡ atEnd (foldl byteTaken (reading noLine (replay (started) (lent (now (cells .entry)) (now (queue .entry)) (now (output .entry)) (now (row .entry))) (lent (now («due_cells» .entry)) (now («due_queue» .entry)) (now («due_output» .entry)) (now («due_row» .entry))) (now (bytes .entry)) (now (buffer .entry)) (now («due_buffer» .entry)))) text)) ⌝ }
+    ensures { λ r. ⌜ TextReplayed (reading noLine (replay started (lent (now (cells .entry)) (now (queue .entry)) (now (output .entry)) (now (row .entry))) (lent (now («due_cells» .entry)) (now («due_queue» .entry)) (now («due_output» .entry)) (now («due_row» .entry))) (now (bytes .entry)) (now (buffer .entry)) (now («due_buffer» .entry)))) r ⌝ }
 {
     let mut text = io::large_buffer();
     let mut p = at_start();
@@ -115,7 +114,7 @@ fn take_all(
 
 // Puts what is to be printed of the input at the front of out and answers its length.
 pub fn put_replay(out: &mut [u8; 128]) -> usize
-    ensures { λ r. ⌜ (text : List ℕ) × (take r (now (out .exit)) ≡ printed text) ⌝ }
+    ensures { λ r. ⌜ Reported r (now (out .exit)) ⌝ }
     ensures { λ r. ⌜ Counts r (now (out .exit)) ⌝ }
 {
     let mut cells = [0i64; 30000];
