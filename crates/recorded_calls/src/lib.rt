@@ -116,13 +116,7 @@ fn run(
 }
 
 // "call deliver with the bytes of the lines 6 before it"
-fn deliver(
-    s: State,
-    l: Line,
-    queue: &mut [u8; 256],
-    row: &mut [i64; ROW],
-    bytes: &[u8; 8],
-) -> State
+fn deliver(s: State, l: Line, queue: &mut [u8; 256], row: &mut [i64; ROW], bytes: &[u8; 8]) -> State
     requires { ⌜ Fits s ⌝ }
     ensures { λ r. ⌜ (r, (now (queue .exit), now (row .exit))) ≡ deliverLine s l (now (bytes .entry)) (now (queue .entry)) (now (row .entry)) ⌝ }
 {

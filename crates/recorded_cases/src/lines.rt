@@ -70,10 +70,7 @@ pub fn kind_of(phase: u32, l: Line) -> u32
 fn first(s: State, l: Line) -> State
     ensures { λ r. ⌜ r ≡ firstLine s l ⌝ }
 {
-    checked(
-        with_phase(s, CASE),
-        word::eq(l.a, 1) & word::eq(l.b, 10000),
-    )
+    checked(with_phase(s, CASE), word::eq(l.a, 1) & word::eq(l.b, 10000))
 }
 
 // "last line": the count of cases.

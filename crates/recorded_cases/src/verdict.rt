@@ -22,7 +22,11 @@ fn put_fault(out: &mut [u8], at: usize, f: Fault) -> usize
         Fault::Text => put(out, at, b"the line is not five numbers\n"),
         Fault::Order => put(out, at, b"a line of this kind is not due\n"),
         Fault::Number => put(out, at, b"a number is out of range\n"),
-        Fault::Cases => put(out, at, b"the case's number or the count of cases is wrong\n"),
+        Fault::Cases => put(
+            out,
+            at,
+            b"the case's number or the count of cases is wrong\n",
+        ),
         Fault::End => put(out, at, b"the list does not end with its last line\n"),
         Fault::Refusal => put(out, at, b"the refusal differs\n"),
         Fault::Place => put(out, at, b"the refusal's place differs\n"),

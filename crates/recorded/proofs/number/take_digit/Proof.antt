@@ -9,7 +9,7 @@ use Rattle.recorded.proofs.number.take_digit.Lts as lts
 -- src/number.rt:51:9
 returns : tie.Need-returns
 unfolding digitRead
-returns c = rw (c .if1 .taken)
+returns c = simp (c .if1 .taken)
 
 -- src/number.rt:54:9
 returns-2 : tie.Need-returns-2

@@ -63,7 +63,7 @@ returns-2 c = let a = c .before .before .before .before .before .before .before 
     let w = replay (a .p .state) m d t b u in
     let f = sym (c .before .before .before .before .before .fails .ensures) ∙ c .before .before .before .before .if1 .left in
     let e = sym (c .before .before .before .feed .ensures) ∙ c .before .fed .given .1 in
-    simp f ( sym (ap (λ (x : Fed). onFed w x) e))
+    simp f (sym (ap (λ (x : Fed). onFed w x) e))
 
 returns-3 : tie.Need-returns-3
 unfolding byteTaken onFed
