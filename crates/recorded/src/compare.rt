@@ -1,6 +1,7 @@
 // What a call answered and left, against the list.
 ghost use mathlib.Core.Path.{_≡_};
-ghost use Rattle.recorded.specs.Compare.{Exactly};
+ghost use Rattle.definition.specs.Calls.{lent};
+ghost use Rattle.recorded.specs.Compare.{Exactly, answerFault, leftFault};
 
 // What is not as the list says.
 pub enum Fault {
@@ -35,6 +36,7 @@ pub struct Answer {
 
 pub fn answers(got: Answer, due: Answer) -> Fault
     ensures { λ r. ⌜ Exactly (got ≡ due) r ⌝ }
+    ensures { λ r. ⌜ r ≡ answerFault got due ⌝ }
 {
     if got.refusal != due.refusal {
         return Fault::Refusal;
@@ -68,6 +70,7 @@ pub fn left(
     due_buffer: &[u8],
 ) -> Fault
     ensures { λ r. ⌜ Exactly ((now (cells .entry) ≡ now («due_cells» .entry)) × ((now (queue .entry) ≡ now («due_queue» .entry)) × ((now (output .entry) ≡ now («due_output» .entry)) × ((now (row .entry) ≡ now («due_row» .entry)) × (now (buffer .entry) ≡ now («due_buffer» .entry)))))) r ⌝ }
+    ensures { λ r. ⌜ r ≡ leftFault (lent (now (cells .entry)) (now (queue .entry)) (now (output .entry)) (now (row .entry))) (lent (now («due_cells» .entry)) (now («due_queue» .entry)) (now («due_output» .entry)) (now («due_row» .entry))) (now (buffer .entry)) (now («due_buffer» .entry)) ⌝ }
 {
     if !super::same::same_numbers(row, due_row) {
         return Fault::Row;

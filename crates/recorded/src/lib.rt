@@ -5,4 +5,6 @@ pub mod number;
 pub mod place;
 pub mod reader;
 pub mod same;
-pub mod text;
+
+// "the row's 16 numbers"
+pub const ROW: usize = 16;

@@ -1,5 +1,7 @@
 // A number: "digits after an optional minus, without leading zeros, within signed 64 bits"
 ghost use mathlib.Core.Path.{_≡_};
+ghost use Prim.Native.Nat.{_<_};
+ghost use Rattle.recorded.specs.Reader.{noNumber, minusRead, digitRead, grown, positiveOf, negativeOf, valueOf};
 
 // What was read of a number.
 pub struct Number {
@@ -18,7 +20,9 @@ pub enum Value {
     Not,
 }
 
-pub fn none_read() -> Number {
+pub fn none_read() -> Number
+    ensures { λ r. ⌜ r ≡ noNumber ⌝ }
+{
     Number {
         minus: false,
         digits: false,
@@ -26,24 +30,23 @@ pub fn none_read() -> Number {
     }
 }
 
-// The number with one byte more, a digit or the minus.
-pub fn grow(n: Number, byte: u8) -> Grown {
-    if byte == b'-' {
-        if n.minus | n.digits {
-            return Grown::Not;
-        }
-        return Grown::Is(Number {
-            minus: true,
-            digits: false,
-            size: 0,
-        });
-    }
-    if byte < b'0' {
+fn take_minus(n: Number) -> Grown
+    ensures { λ r. ⌜ r ≡ minusRead n ⌝ }
+{
+    if n.minus | n.digits {
         return Grown::Not;
     }
-    if b'9' < byte {
-        return Grown::Not;
-    }
+    Grown::Is(Number {
+        minus: true,
+        digits: false,
+        size: 0,
+    })
+}
+
+fn take_digit(n: Number, d: u8) -> Grown
+    requires { ⌜ d < 10 ⌝ }
+    ensures { λ r. ⌜ r ≡ digitRead n d ⌝ }
+{
     if n.digits & (n.size == 0) {
         return Grown::Not;
     }
@@ -53,31 +56,57 @@ pub fn grow(n: Number, byte: u8) -> Grown {
     Grown::Is(Number {
         minus: n.minus,
         digits: true,
-        size: n.size * 10 + wide(byte - b'0'),
+        size: n.size * 10 + d as u64,
     })
 }
 
-fn wide(x: u8) -> u64
-    ensures { λ r. ⌜ r ≡ x ⌝ }
+// The number with one byte more, a digit or the minus.
+pub fn grow(n: Number, byte: u8) -> Grown
+    ensures { λ r. ⌜ r ≡ grown n byte ⌝ }
 {
-    x as u64
+    if byte == b'-' {
+        return take_minus(n);
+    }
+    if byte < b'0' {
+        return Grown::Not;
+    }
+    if b'9' < byte {
+        return Grown::Not;
+    }
+    take_digit(n, byte - b'0')
+}
+
+fn positive(size: u64) -> Value
+    ensures { λ r. ⌜ r ≡ positiveOf size ⌝ }
+{
+    if 9223372036854775807 < size {
+        return Value::Not;
+    }
+    Value::Is(word::of_bits(size))
+}
+
+// The word below 0 has the bits 2^64 less its size.
+fn negative(size: u64) -> Value
+    ensures { λ r. ⌜ r ≡ negativeOf size ⌝ }
+{
+    if size < 1 {
+        return Value::Not;
+    }
+    if 9223372036854775808 < size {
+        return Value::Not;
+    }
+    Value::Is(word::of_bits(18446744073709551615 - (size - 1)))
 }
 
 // The value of a number that ends here.
-pub fn value_of(n: Number) -> Value {
-    if !n.digits {
-        return Value::Not;
-    }
-    let size = word::of_bits(n.size);
-    if n.minus {
-        if (n.size == 0) | (9223372036854775808 < n.size) {
-            return Value::Not;
+pub fn value_of(n: Number) -> Value
+    ensures { λ r. ⌜ r ≡ valueOf n ⌝ }
+{
+    if n.digits {
+        if n.minus {
+            return negative(n.size);
         }
-        let below = word::neg(size);
-        return Value::Is(below.value);
+        return positive(n.size);
     }
-    if 9223372036854775807 < n.size {
-        return Value::Not;
-    }
-    Value::Is(size)
+    Value::Not
 }

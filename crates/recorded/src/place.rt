@@ -1,4 +1,5 @@
 // A line's numbers put where it says. Each answers whether there is such a place and, for a byte, such a byte.
+use crate::ROW;
 use definition::Address;
 ghost use mathlib.Core.Path.{_≡_};
 ghost use Prim.Native.Nat.{_≤_};
@@ -25,7 +26,7 @@ pub fn put_cell(cells: &mut [i64; 30000], address: i64, tag: i64, first: i64, se
 }
 
 // A number of the row: place, 1 to 16.
-pub fn put_number(row: &mut [i64; 16], place: i64, z: i64) -> bool
+pub fn put_number(row: &mut [i64; ROW], place: i64, z: i64) -> bool
     ensures { λ r. ⌜ (r, now (row .exit)) ≡ numberPut (addressOf place) z (now (row .entry)) ⌝ }
 {
     let Address::At(n) = word::to_address(place) else {
@@ -35,7 +36,7 @@ pub fn put_number(row: &mut [i64; 16], place: i64, z: i64) -> bool
     if i < 1 {
         return false;
     }
-    if 16 < i {
+    if ROW < i {
         return false;
     }
     row[i - 1] = z;

@@ -1,1 +1,3 @@
+pub mod Case
 pub mod Room
+pub mod Verdict

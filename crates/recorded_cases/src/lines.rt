@@ -7,29 +7,33 @@ use crate::state::NONE;
 use crate::state::State;
 use crate::state::checked;
 use crate::state::is_due;
-use crate::state::out_of_range;
+use crate::state::one_more;
 use crate::state::used;
 use crate::state::with_fault;
+use crate::state::with_phase;
 use definition::Address;
+use recorded::ROW;
 use recorded::compare::Fault;
 use recorded::place::put_byte;
 use recorded::place::put_cell;
 use recorded::place::put_number;
 use recorded::reader::Line;
-use recorded::text::Next;
+ghost use mathlib.Core.Path.{_≡_};
 ghost use Prim.Native.Nat.{_≤_};
 ghost use lib.ListN.{length};
+ghost use Rattle.definition.specs.Calls.{lent};
 ghost use Rattle.recorded_cases.specs.Room.{Fits};
+ghost use Rattle.recorded_cases.specs.Case.{sizeOf, othersAre0, kindOf, firstLine, lastLine, otherLine, opened as Case·opened, byteLine, both, cellsBoth, numbersBoth, bytesBoth, beforeLine, due, afterLine, closeLine};
 
-// No kind of line: one that is not due, one with a number too many, and no line at all.
+// No kind of line: one that is not due, and one with a number too many.
 pub const UNDUE: u32 = 100;
 
 pub const OVERFULL: u32 = 101;
 
-pub const NO_LINE: u32 = 102;
-
 // The number as a length; what is none is longer than everything.
-pub fn size(z: i64) -> usize {
+pub fn size(z: i64) -> usize
+    ensures { λ r. ⌜ r ≡ sizeOf z ⌝ }
+{
     let Address::At(n) = word::to_address(z) else {
         return 4294967296;
     };
@@ -37,135 +41,131 @@ pub fn size(z: i64) -> usize {
 }
 
 // "numbers that a kind does not use are 0"
-fn others_are_0(l: Line, used: u32) -> bool {
-    ((0 < used) | (l.a == 0))
-        & ((1 < used) | (l.b == 0))
-        & ((2 < used) | (l.c == 0))
-        & ((3 < used) | (l.d == 0))
-}
-
-// The line; where there is none, numbers that nothing asks for.
-pub fn line_of(next: Next) -> Line {
-    let Next::Line(l) = next else {
-        return Line {
-            kind: 0,
-            a: 0,
-            b: 0,
-            c: 0,
-            d: 0,
-        };
-    };
-    l
+fn others_are_0(l: Line, used: u32) -> bool
+    ensures { λ r. ⌜ r ≡ othersAre0 l used ⌝ }
+{
+    ((0 < used) | word::eq(l.a, 0))
+        & ((1 < used) | word::eq(l.b, 0))
+        & ((2 < used) | word::eq(l.c, 0))
+        & ((3 < used) | word::eq(l.d, 0))
 }
 
 // The line's kind, if such a line may come now.
-pub fn kind_of(s: State, next: Next) -> u32 {
-    let Next::Line(l) = next else {
-        return NO_LINE;
-    };
+pub fn kind_of(phase: u32, l: Line) -> u32
+    ensures { λ r. ⌜ r ≡ kindOf phase l ⌝ }
+{
     let Address::At(kind) = word::to_address(l.kind) else {
         return UNDUE;
     };
-    if !is_due(s.phase, kind) {
-        return UNDUE;
+    if is_due(phase, kind) {
+        if others_are_0(l, used(kind)) {
+            return kind;
+        }
+        return OVERFULL;
     }
-    if others_are_0(l, used(kind)) {
-        kind
-    } else {
-        OVERFULL
-    }
+    UNDUE
 }
 
 // "first line: version of the format, count of cells of every machine"
 fn first(s: State, l: Line) -> State
-    requires { ⌜ Fits s ⌝ }
-    ensures { λ r. ⌜ Fits r ⌝ }
+    ensures { λ r. ⌜ r ≡ firstLine s l ⌝ }
 {
-    let mut next = s;
-    next.phase = CASE;
-    checked(next, (l.a == 1) & (l.b == 10000))
+    checked(with_phase(s, CASE), word::eq(l.a, 1) & word::eq(l.b, 10000))
 }
 
 // "last line": the count of cases.
 fn last(s: State, l: Line) -> State
-    requires { ⌜ Fits s ⌝ }
-    ensures { λ r. ⌜ Fits r ⌝ }
+    ensures { λ r. ⌜ r ≡ lastLine s l ⌝ }
 {
-    if word::to_bits(l.a) != s.cases {
-        return with_fault(s, Fault::Cases);
+    if word::to_bits(l.a) == s.cases {
+        return with_phase(s, NONE);
     }
-    let mut next = s;
-    next.phase = NONE;
-    next
+    with_fault(s, Fault::Cases)
 }
 
 // The first and the last line, and what is no line that may come.
 pub fn other(s: State, kind: u32, l: Line) -> State
-    requires { ⌜ Fits s ⌝ }
-    ensures { λ r. ⌜ Fits r ⌝ }
+    ensures { λ r. ⌜ r ≡ otherLine s kind l ⌝ }
 {
-    match kind {
-        0 => first(s, l),
-        99 => last(s, l),
-        OVERFULL => out_of_range(s),
-        NO_LINE => s,
-        _ => with_fault(s, Fault::Order),
+    if kind == 0 {
+        return first(s, l);
     }
+    if kind == 99 {
+        return last(s, l);
+    }
+    if kind == OVERFULL {
+        return with_fault(s, Fault::Number);
+    }
+    with_fault(s, Fault::Order)
 }
 
 // A case's number and lengths.
 pub fn opened(s: State, l: Line) -> State
-    requires { ⌜ Fits s ⌝ }
-    ensures { λ r. ⌜ Fits r ⌝ }
+    ensures { λ r. ⌜ r ≡ Case·opened s l ⌝ }
 {
-    let case = std::num::wrapping_add_u64(s.cases, 1);
-    if word::to_bits(l.a) != case {
-        return with_fault(s, Fault::Cases);
-    }
+    let case = one_more(s.cases);
     let q = size(l.b);
     let o = size(l.c);
-    if 1 < size(l.d) {
-        return out_of_range(s);
+    if word::to_bits(l.a) == case {
+        if 1 < size(l.d) {
+            return with_fault(s, Fault::Number);
+        }
+        if 256 < q {
+            return with_fault(s, Fault::Number);
+        }
+        if 4096 < o {
+            return with_fault(s, Fault::Number);
+        }
+        return State {
+            phase: BEFORE,
+            queue: q,
+            output: o,
+            bytes: 0,
+            buffer: 0,
+            cases: case,
+            calls: s.calls,
+            lines: s.lines,
+            fault: Fault::Nothing,
+        };
     }
-    if 256 < q {
-        return out_of_range(s);
-    }
-    if 4096 < o {
-        return out_of_range(s);
-    }
-    State {
-        phase: BEFORE,
-        queue: q,
-        output: o,
-        bytes: 0,
-        buffer: 0,
-        cases: case,
-        calls: s.calls,
-        lines: s.lines,
-        fault: Fault::Nothing,
-    }
+    with_fault(s, Fault::Cases)
 }
 
 // "a byte for the next line 11, in order"
 pub fn byte_to_deliver(s: State, l: Line, bytes: &mut [u8; 8]) -> State
-    requires { ⌜ Fits s ⌝ }
-    ensures { λ r. ⌜ Fits r ⌝ }
+    ensures { λ r. ⌜ (r, now (bytes .exit)) ≡ byteLine s l (now (bytes .entry)) ⌝ }
 {
     let n = s.bytes;
-    if 8 <= n {
-        return out_of_range(s);
+    if n < 8 {
+        let mut next = s;
+        next.phase = DELIVERY;
+        next.bytes = n + 1;
+        return checked(next, (size(l.a) == n) & put_byte(bytes, 8, l.a, l.b));
     }
-    let mut next = s;
-    next.phase = DELIVERY;
-    next.bytes = n + 1;
-    checked(next, (size(l.a) == n) & put_byte(bytes, 8, l.a, l.b))
+    with_fault(s, Fault::Number)
 }
 
-// A byte of the machine, which is due as well.
-fn put_both(lent: &mut [u8], due: &mut [u8], n: usize, l: Line) -> bool
-    requires { ⌜ (n ≤ length (now lent)) × (n ≤ length (now due)) ⌝ }
+// A cell, a number of the row and a byte of the machine, each due as well.
+fn cells_both(s: State, l: Line, cells: &mut [i64; 30000], due_cells: &mut [i64; 30000]) -> State
+    ensures { λ r. ⌜ (r, (now (cells .exit), now («due_cells» .exit))) ≡ cellsBoth s l (now (cells .entry)) (now («due_cells» .entry)) ⌝ }
 {
-    put_byte(lent, n, l.a, l.b) & put_byte(due, n, l.a, l.b)
+    checked(
+        s,
+        put_cell(cells, l.a, l.b, l.c, l.d) & put_cell(due_cells, l.a, l.b, l.c, l.d),
+    )
+}
+
+fn numbers_both(s: State, l: Line, row: &mut [i64; ROW], due_row: &mut [i64; ROW]) -> State
+    ensures { λ r. ⌜ (r, (now (row .exit), now («due_row» .exit))) ≡ numbersBoth s l (now (row .entry)) (now («due_row» .entry)) ⌝ }
+{
+    checked(s, put_number(row, l.a, l.b) & put_number(due_row, l.a, l.b))
+}
+
+fn bytes_both(s: State, l: Line, n: usize, lent: &mut [u8], due: &mut [u8]) -> State
+    requires { ⌜ (n ≤ length (now lent)) × (n ≤ length (now due)) ⌝ }
+    ensures { λ r. ⌜ (r, (now (lent .exit), now (due .exit))) ≡ bytesBoth s l n (now (lent .entry)) (now (due .entry)) ⌝ }
+{
+    checked(s, put_byte(lent, n, l.a, l.b) & put_byte(due, n, l.a, l.b))
 }
 
 // The lines 2 to 5: "before".
@@ -179,23 +179,22 @@ pub fn before(
     due_queue: &mut [u8; 256],
     output: &mut [u8; 4096],
     due_output: &mut [u8; 4096],
-    row: &mut [i64; 16],
-    due_row: &mut [i64; 16],
+    row: &mut [i64; ROW],
+    due_row: &mut [i64; ROW],
 ) -> State
     requires { ⌜ Fits s ⌝ }
-    ensures { λ r. ⌜ Fits r ⌝ }
+    ensures { λ r. ⌜ both r (lent (now (cells .exit)) (now (queue .exit)) (now (output .exit)) (now (row .exit))) (lent (now («due_cells» .exit)) (now («due_queue» .exit)) (now («due_output» .exit)) (now («due_row» .exit))) ≡ beforeLine kind l (both s (lent (now (cells .entry)) (now (queue .entry)) (now (output .entry)) (now (row .entry))) (lent (now («due_cells» .entry)) (now («due_queue» .entry)) (now («due_output» .entry)) (now («due_row» .entry)))) ⌝ }
 {
-    let q = s.queue;
-    let o = s.output;
-    match kind {
-        2 => checked(
-            s,
-            put_cell(cells, l.a, l.b, l.c, l.d) & put_cell(due_cells, l.a, l.b, l.c, l.d),
-        ),
-        3 => checked(s, put_number(row, l.a, l.b) & put_number(due_row, l.a, l.b)),
-        4 => checked(s, put_both(queue, due_queue, q, l)),
-        _ => checked(s, put_both(output, due_output, o, l)),
+    if kind == 2 {
+        return cells_both(s, l, cells, due_cells);
     }
+    if kind == 3 {
+        return numbers_both(s, l, row, due_row);
+    }
+    if kind == 4 {
+        return bytes_both(s, l, s.queue, queue, due_queue);
+    }
+    bytes_both(s, l, s.output, output, due_output)
 }
 
 // The lines 20 to 24: "after".
@@ -206,40 +205,42 @@ pub fn after(
     due_cells: &mut [i64; 30000],
     due_queue: &mut [u8; 256],
     due_output: &mut [u8; 4096],
-    due_row: &mut [i64; 16],
+    due_row: &mut [i64; ROW],
     due_buffer: &mut [u8; 128],
 ) -> State
     requires { ⌜ Fits s ⌝ }
-    ensures { λ r. ⌜ Fits r ⌝ }
+    ensures { λ r. ⌜ due r (lent (now («due_cells» .exit)) (now («due_queue» .exit)) (now («due_output» .exit)) (now («due_row» .exit))) (now («due_buffer» .exit)) ≡ afterLine kind l (due s (lent (now («due_cells» .entry)) (now («due_queue» .entry)) (now («due_output» .entry)) (now («due_row» .entry))) (now («due_buffer» .entry))) ⌝ }
 {
-    let q = s.queue;
-    let o = s.output;
-    let n = s.buffer;
-    match kind {
-        20 => checked(s, put_cell(due_cells, l.a, l.b, l.c, l.d)),
-        21 => checked(s, put_number(due_row, l.a, l.b)),
-        22 => checked(s, put_byte(due_queue, q, l.a, l.b)),
-        23 => checked(s, put_byte(due_output, o, l.a, l.b)),
-        _ => checked(s, put_byte(due_buffer, n, l.a, l.b)),
+    if kind == 20 {
+        return checked(s, put_cell(due_cells, l.a, l.b, l.c, l.d));
     }
+    if kind == 21 {
+        return checked(s, put_number(due_row, l.a, l.b));
+    }
+    if kind == 22 {
+        return checked(s, put_byte(due_queue, s.queue, l.a, l.b));
+    }
+    if kind == 23 {
+        return checked(s, put_byte(due_output, s.output, l.a, l.b));
+    }
+    checked(s, put_byte(due_buffer, s.buffer, l.a, l.b))
 }
 
 // "closes a call: everything not named since the call is as before the call"
 pub fn close(
     s: State,
-    cells: &mut [i64; 30000],
-    due_cells: &mut [i64; 30000],
-    queue: &mut [u8; 256],
-    due_queue: &mut [u8; 256],
-    output: &mut [u8; 4096],
-    due_output: &mut [u8; 4096],
-    row: &mut [i64; 16],
-    due_row: &mut [i64; 16],
-    buffer: &mut [u8; 128],
-    due_buffer: &mut [u8; 128],
+    cells: &[i64; 30000],
+    due_cells: &[i64; 30000],
+    queue: &[u8; 256],
+    due_queue: &[u8; 256],
+    output: &[u8; 4096],
+    due_output: &[u8; 4096],
+    row: &[i64; ROW],
+    due_row: &[i64; ROW],
+    buffer: &[u8; 128],
+    due_buffer: &[u8; 128],
 ) -> State
-    requires { ⌜ Fits s ⌝ }
-    ensures { λ r. ⌜ Fits r ⌝ }
+    ensures { λ r. ⌜ r ≡ closeLine s (lent (now (cells .entry)) (now (queue .entry)) (now (output .entry)) (now (row .entry))) (lent (now («due_cells» .entry)) (now («due_queue» .entry)) (now («due_output» .entry)) (now («due_row» .entry))) (now (buffer .entry)) (now («due_buffer» .entry)) ⌝ }
 {
     let f = recorded::compare::left(
         cells,
@@ -253,7 +254,5 @@ pub fn close(
         buffer,
         due_buffer,
     );
-    let mut next = s;
-    next.phase = CALL;
-    with_fault(next, f)
+    with_fault(with_phase(s, CALL), f)
 }

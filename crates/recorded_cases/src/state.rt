@@ -1,7 +1,9 @@
 // How far the replay is, and the first thing that is not as the list says.
 use recorded::compare::Fault;
-use recorded::text::Next;
-ghost use Rattle.recorded_cases.specs.Room.{Fits};
+use recorded::reader::Reader;
+use recorded::reader::is_at_start;
+ghost use mathlib.Core.Path.{_≡_};
+ghost use Rattle.recorded_cases.specs.Case.{started, fails as Case·fails, withFault, withPhase, checked as Case·checked, nextLine, oneMore, brokenLine, textEnd, isDue, used as Case·used};
 
 // The lines that may come next.
 pub const FIRST: u32 = 0;
@@ -18,8 +20,6 @@ pub const CALL: u32 = 5;
 
 pub const NONE: u32 = 6;
 
-pub const OVER: u32 = 7;
-
 pub struct State {
     pub phase: u32,
     // The case's queue and output record, the bytes to deliver and the drain buffer: how long each is.
@@ -34,7 +34,7 @@ pub struct State {
 }
 
 pub fn at_start() -> State
-    ensures { λ r. ⌜ Fits r ⌝ }
+    ensures { λ r. ⌜ r ≡ started ⌝ }
 {
     State {
         phase: FIRST,
@@ -49,22 +49,31 @@ pub fn at_start() -> State
     }
 }
 
-pub fn fails(f: Fault) -> bool {
+pub fn fails(f: Fault) -> bool
+    ensures { λ r. ⌜ r ≡ Case·fails f ⌝ }
+{
     match f {
         Fault::Nothing => false,
-        _ => true,
+        Fault::Text => true,
+        Fault::Order => true,
+        Fault::Number => true,
+        Fault::Cases => true,
+        Fault::End => true,
+        Fault::Refusal => true,
+        Fault::Place => true,
+        Fault::Stop => true,
+        Fault::Detail => true,
+        Fault::Count => true,
+        Fault::Row => true,
+        Fault::Cells => true,
+        Fault::Queue => true,
+        Fault::Output => true,
+        Fault::Buffer => true,
     }
 }
 
-// Whether nothing more is to be read.
-pub fn is_over(s: State) -> bool {
-    let fault = s.fault;
-    (s.phase == OVER) | fails(fault)
-}
-
 pub fn with_fault(s: State, f: Fault) -> State
-    requires { ⌜ Fits s ⌝ }
-    ensures { λ r. ⌜ Fits r ⌝ }
+    ensures { λ r. ⌜ r ≡ withFault s f ⌝ }
 {
     State {
         phase: s.phase,
@@ -79,78 +88,88 @@ pub fn with_fault(s: State, f: Fault) -> State
     }
 }
 
-pub fn out_of_range(s: State) -> State
-    requires { ⌜ Fits s ⌝ }
-    ensures { λ r. ⌜ Fits r ⌝ }
+pub fn with_phase(s: State, phase: u32) -> State
+    ensures { λ r. ⌜ r ≡ withPhase s phase ⌝ }
 {
-    with_fault(s, Fault::Number)
+    let mut next = s;
+    next.phase = phase;
+    next
 }
 
 // A line's numbers are out of range unless ok.
 pub fn checked(s: State, ok: bool) -> State
-    requires { ⌜ Fits s ⌝ }
-    ensures { λ r. ⌜ Fits r ⌝ }
+    ensures { λ r. ⌜ r ≡ Case·checked s ok ⌝ }
 {
-    if ok { s } else { out_of_range(s) }
+    if ok {
+        return s;
+    }
+    with_fault(s, Fault::Number)
+}
+
+pub fn one_more(n: u64) -> u64
+    ensures { λ r. ⌜ r ≡ oneMore n ⌝ }
+{
+    std::num::wrapping_add_u64(n, 1)
 }
 
 // Whether a line of this kind may come.
-pub fn is_due(phase: u32, kind: u32) -> bool {
+pub fn is_due(phase: u32, kind: u32) -> bool
+    ensures { λ r. ⌜ r ≡ isDue phase kind ⌝ }
+{
     let call = (phase == BEFORE) | (phase == CALL);
-    match kind {
-        0 => phase == FIRST,
-        1 | 99 => (phase == CASE) | (phase == CALL),
-        2..=5 => phase == BEFORE,
-        6 | 11 => call | (phase == DELIVERY),
-        10 | 12 | 13 | 14 => call,
-        20..=24 | 29 => phase == AFTER,
-        _ => false,
-    }
+    ((kind == 0) & (phase == FIRST))
+        | ((((kind == 1) | (kind == 99)) & ((phase == CASE) | (phase == CALL)))
+            | (((1 < kind) & (kind < 6) & (phase == BEFORE))
+                | ((((kind == 6) | (kind == 11)) & (call | (phase == DELIVERY)))
+                    | ((((kind == 10) | (kind == 12) | (kind == 13) | (kind == 14)) & call)
+                        | ((((19 < kind) & (kind < 25)) | (kind == 29)) & (phase == AFTER))))))
 }
 
 // How many numbers a line of this kind has besides the kind; the others are 0.
-pub fn used(kind: u32) -> u32 {
-    match kind {
-        29 => 0,
-        99 => 1,
-        0 | 3..=6 | 11 | 21..=24 => 2,
-        12 | 14 => 3,
-        _ => 4,
+pub fn used(kind: u32) -> u32
+    ensures { λ r. ⌜ r ≡ Case·used kind ⌝ }
+{
+    if kind == 29 {
+        return 0;
     }
+    if kind == 99 {
+        return 1;
+    }
+    if (kind == 0) | ((2 < kind) & (kind < 7)) | (kind == 11) | ((20 < kind) & (kind < 25)) {
+        return 2;
+    }
+    if (kind == 12) | (kind == 14) {
+        return 3;
+    }
+    4
 }
 
 // One line more.
 pub fn next_line(s: State) -> State
-    requires { ⌜ Fits s ⌝ }
-    ensures { λ r. ⌜ Fits r ⌝ }
+    ensures { λ r. ⌜ r ≡ nextLine s ⌝ }
 {
     let mut next = s;
-    next.lines = std::num::wrapping_add_u64(s.lines, 1);
+    next.lines = one_more(s.lines);
     next
 }
 
-// A line is counted; what is none is told at once. The end is due after the last line.
-pub fn told(s: State, next: Next) -> State
-    requires { ⌜ Fits s ⌝ }
-    ensures { λ r. ⌜ Fits r ⌝ }
+// A line that is not five numbers.
+pub fn broken_line(s: State) -> State
+    ensures { λ r. ⌜ r ≡ brokenLine s ⌝ }
 {
-    match next {
-        Next::Broken => with_fault(next_line(s), Fault::Text),
-        Next::Cut => with_fault(next_line(s), Fault::End),
-        Next::End => at_end(s),
-        Next::Line(l) => next_line(s),
-        Next::Part => s,
-    }
+    with_fault(next_line(s), Fault::Text)
 }
 
-fn at_end(s: State) -> State
-    requires { ⌜ Fits s ⌝ }
-    ensures { λ r. ⌜ Fits r ⌝ }
+// The text's end is due after the last line.
+pub fn text_end(r: Reader, s: State) -> State
+    ensures { λ q. ⌜ q ≡ textEnd r s ⌝ }
 {
-    if s.phase != NONE {
-        return with_fault(next_line(s), Fault::End);
+    let fault = s.fault;
+    if fails(fault) {
+        return s;
     }
-    let mut over = s;
-    over.phase = OVER;
-    over
+    if is_at_start(r) & (s.phase == NONE) {
+        return s;
+    }
+    with_fault(next_line(s), Fault::End)
 }

@@ -3,7 +3,7 @@ use mathlib.Core.Path.{_≡_}
 use mathlib.Core.Bool.{Bool, true, false, cond, _&&_}
 use mathlib.Core.List.{List}
 use Prim.Native.Nat.{ℕ, _+_, _<_, _≤_}
-use lib.IntN.{ℤ}
+use lib.IntN.{ℤ, pos}
 use lib.ListN.{length, set}
 use Rattle.definition.specs.declared.Cell.{Cell}
 use Rattle.definition.specs.declared.Registers.{Registers}
@@ -20,6 +20,7 @@ use Rattle.memory.specs.Overlay.{overlay, NO-CELL}
 use Rattle.registers.specs.Meaning.{result}
 use Rattle.registers.specs.declared.Put.{Put}
 use Rattle.stores.specs.declared.Made.{Made}
+use Rattle.arguments.specs.declared.Arg.{Arg}
 use Rattle.encoding.specs.declared.Instr.{Instr}
 use Rattle.encoding.specs.Meaning.{instrOf}
 use Rattle.console.specs.declared.ConsoleState.{ConsoleState}
@@ -40,6 +41,13 @@ abbrev pub endingOf : Ends → Ending
 endingOf r = cond (r .exception) (exception (r .number)) (stop (r .number) (r .detail))
 
 -- ---- fetch
+
+abbrev noArg : Arg
+noArg = record { mode = 0; reg = 0; number = pos 0 }
+
+-- What stands where no instruction was fetched.
+abbrev pub noInstr : Instr
+noInstr = record { op = 0; cost = 0; x = noArg; y = noArg }
 
 abbrev pub fetchedRes : List ℤ → Fetched → Res Instruction
 fetchedRes l r = result (instrOf (r .i)) (r .ok) (r .error) (core l (r .s))

@@ -10,7 +10,7 @@ ghost use Prim.Native.Nat.{ℕ, _<_, _≤_};
 ghost use Rattle.definition.specs.Constants.{CELLS-MOST};
 ghost use Rattle.definition.specs.Memory.{cellCount, cellAt};
 ghost use Rattle.definition.specs.Encoding.{sound};
-ghost use Rattle.runtime.specs.Meaning.{Decodes, Fetches};
+ghost use Rattle.runtime.specs.Meaning.{noInstr, Decodes, Fetches};
 
 // The instruction at pc, with pc moved on. Where not ok, `i` is a filler.
 pub struct Fetched {
@@ -21,7 +21,7 @@ pub struct Fetched {
 }
 
 fn no_instruction() -> Instr
-    ensures { λ r. ⌜ (r .op ≡ 0) × (r .cost ≡ 0) ⌝ }
+    ensures { λ r. ⌜ r ≡ noInstr ⌝ }
 {
     let x = Arg {
         mode: 0,

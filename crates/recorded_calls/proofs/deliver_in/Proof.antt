@@ -1,3 +1,18 @@
+use mathlib.Core.Path.{_≡_, sym, ap, _∙_}
+use mathlib.Core.List.{List, _++_}
+use Prim.Native.Nat.{ℕ}
+use lib.IntN.{ℤ, pos}
+use lib.ListN.{length, take, drop, replicate}
+use Rattle.definition.specs.declared.Done.{Done}
+use Rattle.definition.specs.declared.Drained.{Drained}
+use Rattle.definition.specs.declared.Raised.{Raised}
+use Rattle.definition.specs.declared.Ran.{Ran}
+use Rattle.definition.specs.Calls.{Called, called, Lent, lent}
+use Rattle.definition.specs.Word.{bits, addressOf}
+use Rattle.word.proofs.Laws.{back}
+use borrow.Author.Tests.{eq-eqb, ne-eqb, lt-ltb, le-ltb}
+use Rattle.recorded_cases.specs.declared.state.State.{State}
+use Rattle.recorded_calls.specs.Replay.{deliveredIn}
 use mathlib.Core.Path.{sym}
 use native.Mathlib.Omega.{arith}
 use borrow.Author.Needs.{needs}
@@ -27,7 +42,8 @@ same-length-2 : tie.Need-same-length-2
 same-length-2 c = search needs
 
 returns : tie.Need-returns
-returns c = search needs
+returns c = let a = c .before .before .before .before .before .before .before .before .before .args in
+    ap (λ (x : Called Done (List ℕ × List ℤ)). called (x .answer) (x .left .0 ++ drop (a .q) (a .queue .now), x .left .1)) (c .before .before .before .z33-deliver .ensures)
 
 pub deliver-in-spec : {M : Type 1} → statement M
 deliver-in-spec =

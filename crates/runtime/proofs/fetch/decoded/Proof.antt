@@ -11,6 +11,7 @@ use Rattle.word.proofs.Laws.{back}
 use Rattle.definition.specs.Encoding.{Extracted, extractInstruction, sound, soundInstruction, Instruction, instruction}
 use Rattle.definition.specs.Exec.{core, ok}
 use Rattle.definition.specs.Runtime.{orInstruction}
+use Rattle.encoding.specs.declared.Instr.{Instr}
 use Rattle.encoding.proofs.Rule.{both}
 use Rattle.encoding.proofs.Sound.{code, code-sound}
 use Rattle.runtime.proofs.Laws.{not-code, is-code, near}
@@ -29,7 +30,7 @@ returns : tie.Need-returns
 unfolding extractInstruction orInstruction
 returns c = let a = c .before .before .before .args in let v = a .v in
     let h : ltZ (v .tag) (pos 2) ≡ true = rw (back (v .tag) (c .before .before .struct-told .given .0 .1)) at (c .before .if1 .taken) in
-    record { is = λ (l : List ℤ). sym (ap (λ (x : Extracted). orInstruction x (core l (a .s))) (not-code (v .tag) (v .first) (v .second) h)); known = (let z = c .no-instruction .ensures .0 in omega arith); cheap = (let z = c .no-instruction .ensures .1 in omega arith) }
+    record { is = λ (l : List ℤ). sym (ap (λ (x : Extracted). orInstruction x (core l (a .s))) (not-code (v .tag) (v .first) (v .second) h)); known = (let z = ap (λ (i : Instr). i .op) (c .no-instruction .ensures) in omega arith); cheap = (let z = ap (λ (i : Instr). i .cost) (c .no-instruction .ensures) in omega arith) }
 
 cast-decode : tie.Need-cast-decode
 unfolding sound

@@ -7,6 +7,7 @@ use Rattle.definition.specs.Exec.{core}
 use Rattle.definition.specs.Runtime.{orInstruction}
 use Prim.Native.Nat.{_+_, _<_}
 use Rattle.definition.specs.Memory.{cellCount}
+use Rattle.encoding.specs.declared.Instr.{Instr}
 use Rattle.runtime.proofs.Laws.{fetch-in, fetch-out}
 use borrow.Author.Needs.{needs}
 use Rattle.runtime.proofs.fetch.fetch.Statement.{statement}
@@ -37,7 +38,7 @@ no-instruction-requires : tie.Need-no-instruction-requires
 no-instruction-requires c κs = search needs
 
 returns-2 : tie.Need-returns-2
-returns-2 c = let a = c .before .before .args in record { is = fetch-out (a .cells .now) (a .s) (omega arith); known = (let z = c .no-instruction .ensures .0 in omega arith); cheap = (let z = c .no-instruction .ensures .1 in omega arith) }
+returns-2 c = let a = c .before .before .args in record { is = fetch-out (a .cells .now) (a .s) (omega arith); known = (let z = ap (λ (i : Instr). i .op) (c .no-instruction .ensures) in omega arith); cheap = (let z = ap (λ (i : Instr). i .cost) (c .no-instruction .ensures) in omega arith) }
 
 pub fetch-spec : {M : Type 1} → statement M
 fetch-spec =
