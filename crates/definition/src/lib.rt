@@ -107,3 +107,10 @@ pub struct Raised {
     pub stop: u64,
     pub detail: u64,
 }
+
+#[repr(C)]
+pub struct Counted {
+    pub refusal: u64,
+    pub place: u64,
+    pub count: u64,
+}
