@@ -3,3 +3,5 @@ pub mod Sound
 pub mod Complete
 pub mod Cases
 pub mod Fused
+pub mod Placed
+pub mod Texts

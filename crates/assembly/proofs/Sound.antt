@@ -211,7 +211,7 @@ module _ (d : ℕ) where
         holds = plain-row (gap-of t) (f .3) (f .4);
       })
 
-  onto-lines : (l : Line Expr) (x : Text Expr) (ls : List (Line Expr)) → onto l x ≡ lines ls → (ms : List (Line Expr)) × (x ≡ lines ms) × (ls ≡ l ∷ ms)
+  pub onto-lines : (l : Line Expr) (x : Text Expr) (ls : List (Line Expr)) → onto l x ≡ lines ls → (ms : List (Line Expr)) × (x ≡ lines ms) × (ls ≡ l ∷ ms)
   unfolding onto
   onto-lines l (lines ms) ls h = (ms, refl, lines-path (sym h))
   onto-lines l (broken k) ls h = let z : _≡_ {A = ℕ} 0 1 = cc in absurd (omega arith)
