@@ -44,7 +44,7 @@ names-end s i j b h e =
 
 -- ---- lines
 
-drop-past : (l : List ℕ) (k : ℕ) → length l ≤ k → drop k l ≡ []
+pub drop-past : (l : List ℕ) (k : ℕ) → length l ≤ k → drop k l ≡ []
 drop-past [] zero h = refl
 drop-past [] (suc k) h = refl
 drop-past (a ∷ l) zero h = absurd (omega arith)
