@@ -5,3 +5,4 @@ pub mod Cases
 pub mod Fused
 pub mod Placed
 pub mod Texts
+pub mod Cells

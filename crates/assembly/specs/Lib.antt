@@ -1,3 +1,4 @@
 pub mod Grammar
 pub mod Reader
 pub mod Assemble
+pub mod Theorems
