@@ -1,10 +1,10 @@
-/* The proved Z33 for C: its eight calls over memory that the caller owns and lends for the length of a call.
+/* The proved Z33 for C: its calls over memory that the caller owns and lends for the length of a call.
  *
  * Lent are: cells, three numbers each (tag, first, second); the row of 16 numbers (a, b, pc, sp, sr, cycles, the console's marks and
  * counts); the input queue and the output record, as bytes. Each comes as a pointer and a count of elements (numbers or bytes, not
  * cells); where the count is 0 the pointer may be null. Buffers of one call must not overlap.
  *
- * An answer begins with refusal and place. refusal 0: the call was done. Otherwise it is the number of what was wrong (1 to 11), place
+ * An answer begins with refusal and place. refusal 0: the call was done. Otherwise it is the number of what was wrong (1 to 11, 13 to 15), place
  * says where, every other field is 0 and nothing that was lent has changed. */
 #ifndef Z33_H
 #define Z33_H
@@ -15,6 +15,7 @@
 typedef struct { uint64_t refusal, place; } z33_done;
 typedef struct { uint64_t refusal, place, stop, detail, steps; } z33_ran;
 typedef struct { uint64_t refusal, place, count; } z33_drained;
+typedef struct { uint64_t refusal, place, count; } z33_counted;
 typedef struct { uint64_t refusal, place; int64_t tag, first, second; } z33_cell;
 typedef struct { uint64_t refusal, place, stop, detail; } z33_raised; /* stop 0: the exception was entered */
 
@@ -44,5 +45,10 @@ z33_done z33_set_register(int64_t *row, size_t row_len, uint64_t reg, int64_t wo
 
 /* Enters the exception of a code 0 to 5, for one cycle; or stop 2 or 7, and then nothing has changed. */
 z33_raised z33_raise(int64_t *cells, size_t cells_len, int64_t *row, size_t row_len, uint64_t code);
+
+/* A program written as text, into the front of the image: one cell a line, the room behind is kept. count is of cells; place is the line,
+ * from 1. Refusals: 9 the image is no whole number of cells; 13 a line outside the grammar, round brackets over 32 deep, or past the image;
+ * 14 a label missing, set again or beyond 256; 15 a value out of range; in this order, each with its lowest line. */
+z33_counted z33_assemble(const uint8_t *text, size_t text_len, int64_t *image, size_t image_len);
 
 #endif

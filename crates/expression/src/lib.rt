@@ -309,7 +309,7 @@ pub fn add_up(s: &[u8], r: Reading, q: Reading) -> Reading
 
 // Products joined by plus and minus.
 pub fn sum(s: &[u8], labels: &[usize], at: usize, depth: usize) -> Reading
-    requires { ⌜ (at ≤ length (now s)) × (depth ≤ 32) × (Usable (now labels)) ⌝ }
+    requires { ⌜ (at ≤ length (now s)) × (depth ≤ 64) × (Usable (now labels)) ⌝ }
     ensures { λ r. ⌜ Read (now (s .entry)) at (readSum (values (lookup (now (s .entry)) (now (labels .entry)))) depth (drop at (now (s .entry)))) r ⌝ }
 {
     let mut r = product(s, labels, at, depth);
@@ -323,7 +323,7 @@ pub fn sum(s: &[u8], labels: &[usize], at: usize, depth: usize) -> Reading
 
 // Atoms joined by stars.
 pub fn product(s: &[u8], labels: &[usize], at: usize, depth: usize) -> Reading
-    requires { ⌜ (at ≤ length (now s)) × (depth ≤ 32) × (Usable (now labels)) ⌝ }
+    requires { ⌜ (at ≤ length (now s)) × (depth ≤ 64) × (Usable (now labels)) ⌝ }
     ensures { λ r. ⌜ Read (now (s .entry)) at (readProduct (values (lookup (now (s .entry)) (now (labels .entry)))) depth (drop at (now (s .entry)))) r ⌝ }
 {
     let mut r = atom(s, labels, at, depth);
@@ -337,7 +337,7 @@ pub fn product(s: &[u8], labels: &[usize], at: usize, depth: usize) -> Reading
 
 // A number, a label, or a sum in round brackets.
 pub fn atom(s: &[u8], labels: &[usize], at: usize, depth: usize) -> Reading
-    requires { ⌜ (at ≤ length (now s)) × (depth ≤ 32) × (Usable (now labels)) ⌝ }
+    requires { ⌜ (at ≤ length (now s)) × (depth ≤ 64) × (Usable (now labels)) ⌝ }
     ensures { λ r. ⌜ Read (now (s .entry)) at (readAtom (values (lookup (now (s .entry)) (now (labels .entry)))) depth (drop at (now (s .entry)))) r ⌝ }
 {
     if depth == 0 {

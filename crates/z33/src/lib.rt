@@ -5,3 +5,4 @@ pub mod raise;
 pub mod register;
 pub mod run;
 pub mod serial;
+pub mod text;

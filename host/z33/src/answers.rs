@@ -45,7 +45,15 @@ pub struct Raised {
     pub detail: u64,
 }
 
+#[repr(C)]
+#[derive(Clone, Copy, Debug, Default, PartialEq, Eq)]
+pub struct Counted {
+    pub refusal: u64,
+    pub place: u64,
+    pub count: u64,
+}
+
 const _: () = {
     assert!(size_of::<Done>() == 16 && size_of::<Ran>() == 40 && size_of::<Drained>() == 24);
-    assert!(size_of::<Cell>() == 40 && size_of::<Raised>() == 32);
+    assert!(size_of::<Cell>() == 40 && size_of::<Raised>() == 32 && size_of::<Counted>() == 24);
 };

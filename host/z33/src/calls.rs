@@ -4,7 +4,7 @@
 
 use std::ptr::{null, null_mut};
 
-use crate::answers::{Cell, Done, Drained, Raised, Ran};
+use crate::answers::{Cell, Counted, Done, Drained, Raised, Ran};
 use crate::declared as c;
 
 pub fn fresh<'a>(cells: impl Into<Option<&'a mut [i64]>>, row: impl Into<Option<&'a mut [i64]>>) -> Done {
@@ -70,6 +70,11 @@ pub fn raise<'a>(
 ) -> Raised {
     let ((cells, cells_len), (row, row_len)) = (lend(cells), lend(row));
     unsafe { c::z33_raise(cells, cells_len, row, row_len, code) }
+}
+
+pub fn assemble<'a>(text: impl Into<Option<&'a [u8]>>, image: impl Into<Option<&'a mut [i64]>>) -> Counted {
+    let ((text, text_len), (image, image_len)) = (show(text), lend(image));
+    unsafe { c::z33_assemble(text, text_len, image, image_len) }
 }
 
 /// Pointer and length of what is lent to be changed.

@@ -1,6 +1,6 @@
 //! The functions of include/z33.h, in its order.
 
-use crate::answers::{Cell, Done, Drained, Raised, Ran};
+use crate::answers::{Cell, Counted, Done, Drained, Raised, Ran};
 
 unsafe extern "C" {
     pub fn z33_fresh(cells: *mut i64, cells_len: usize, row: *mut i64, row_len: usize) -> Done;
@@ -48,4 +48,6 @@ unsafe extern "C" {
     pub fn z33_set_register(row: *mut i64, row_len: usize, reg: u64, word: i64) -> Done;
 
     pub fn z33_raise(cells: *mut i64, cells_len: usize, row: *mut i64, row_len: usize, code: u64) -> Raised;
+
+    pub fn z33_assemble(text: *const u8, text_len: usize, image: *mut i64, image_len: usize) -> Counted;
 }

@@ -5,6 +5,6 @@ mod calls;
 mod declared;
 mod library;
 
-pub use answers::{Cell, Done, Drained, Raised, Ran};
-pub use calls::{deliver, drain, fresh, load, raise, read_cell, run, set_register};
+pub use answers::{Cell, Counted, Done, Drained, Raised, Ran};
+pub use calls::{assemble, deliver, drain, fresh, load, raise, read_cell, run, set_register};
 pub use library::Library;
