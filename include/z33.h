@@ -1,16 +1,137 @@
-/* The proved Z33 for C: its calls over memory that the caller owns and lends for the length of a call.
+/* The proved Z33 for C and C++: its calls over memory that the caller owns and lends for the length of a call.
  *
  * Lent are: cells, three numbers each (tag, first, second); the row of 16 numbers (a, b, pc, sp, sr, cycles, the console's marks and
  * counts); the input queue and the output record, as bytes. Each comes as a pointer and a count of elements (numbers or bytes, not
  * cells); where the count is 0 the pointer may be null. Buffers of one call must not overlap.
  *
- * An answer begins with refusal and place. refusal 0: the call was done. Otherwise it is the number of what was wrong (1 to 11, 13 to 15), place
- * says where, every other field is 0 and nothing that was lent has changed. */
+ * An answer begins with refusal and place. refusal 0: the call was done. Otherwise it is the number of what was wrong (1 to 11), place
+ * says where, every other field is 0 and nothing that was lent has changed.
+ *
+ * How a machine is booted. z33_fresh leaves a row of zeros, so the machine is in user mode, and z33_set_register sets a, b, pc and sp but
+ * not sr. Whoever boots a kernel writes sr into the row, as here: supervisor mode, a stack from cell 1,000 down, an image from cell 0 on
+ * (add 5 to a; reset). docs/MANUAL.md has the tags of the instructions.
+ *
+ *     static int64_t cells[Z33_CELL_LENGTH * 2048], row[Z33_ROW_LENGTH];
+ *     static uint8_t queue[256], output[4096];
+ *     static const int64_t image[] = {202, 5, 0, 20702, 0, 0};
+ *
+ *     z33_fresh(cells, Z33_CELL_LENGTH * 2048, row, Z33_ROW_LENGTH);
+ *     z33_load(cells, Z33_CELL_LENGTH * 2048, image, 6, 0);
+ *     z33_set_register(row, Z33_ROW_LENGTH, Z33_PC, 0);
+ *     z33_set_register(row, Z33_ROW_LENGTH, Z33_SP, 1000);
+ *     row[Z33_ROW_SR] = Z33_SR_SUPERVISOR;
+ *     z33_ran ran = z33_run(cells, Z33_CELL_LENGTH * 2048, queue, 256, output, 4096, row, Z33_ROW_LENGTH, 100000);
+ *     if (ran.refusal == 0 && ran.stop == Z33_STOP_RESET)
+ *         printf("reset after %" PRIu64 " steps, a is %" PRId64 "\n", ran.steps, row[Z33_ROW_A + Z33_FIRST]);
+ */
 #ifndef Z33_H
 #define Z33_H
 
 #include <stddef.h>
 #include <stdint.h>
+
+#define Z33_VERSION "0.1.0"
+
+#ifdef __cplusplus
+extern "C" {
+#endif
+
+/* ---- what is lent */
+
+/* A cell's numbers, and the tags: any other tag that is not damaged is an instruction's. */
+enum { Z33_TAG = 0, Z33_FIRST = 1, Z33_SECOND = 2, Z33_CELL_LENGTH = 3 };
+enum { Z33_TAG_EMPTY = 0, Z33_TAG_WORD = 1, Z33_TAG_LEAST_INSTRUCTION = 2 };
+
+/* Places in the row, from 0 as C counts (a refusal's place counts from 1). a and b are cells, from their tag on. */
+enum {
+    Z33_ROW_A = 0,
+    Z33_ROW_B = 3,
+    Z33_ROW_PC = 6,
+    Z33_ROW_SP = 7,
+    Z33_ROW_SR = 8,
+    Z33_ROW_CYCLES = 9,
+    Z33_ROW_ENABLE = 10,
+    Z33_ROW_FLAG = 11,
+    Z33_ROW_PENDING = 12,
+    Z33_ROW_QUEUE_START = 13,
+    Z33_ROW_QUEUE_COUNT = 14,
+    Z33_ROW_OUTPUT_COUNT = 15,
+    Z33_ROW_LENGTH = 16
+};
+
+/* Bits of sr. */
+enum {
+    Z33_SR_ZERO = 1 << 1,
+    Z33_SR_NEGATIVE = 1 << 2,
+    Z33_SR_OVERFLOW = 1 << 3,
+    Z33_SR_INTERRUPT_ENABLE = 1 << 8,
+    Z33_SR_SUPERVISOR = 1 << 9
+};
+
+/* Limits: counts of cells and of bytes. */
+enum {
+    Z33_CELLS_LEAST = 256,
+    Z33_CELLS_MOST = 10000,
+    Z33_QUEUE_LEAST = 1,
+    Z33_QUEUE_MOST = 4096,
+    Z33_OUTPUT_MOST = 65536
+};
+
+/* Cells and ports with a meaning of their own. */
+enum {
+    Z33_INTERRUPT_PC_SAVE = 100,
+    Z33_INTERRUPT_SR_SAVE = 101,
+    Z33_INTERRUPT_EXCEPTION = 102,
+    Z33_INTERRUPT_HANDLER = 200,
+    Z33_SERIAL_STATUS_PORT = 110,
+    Z33_SERIAL_DATA_PORT = 111
+};
+
+/* Registers: for z33_set_register, and the detail of Z33_STOP_INVALID_REGISTER. */
+enum { Z33_A = 0, Z33_B = 1, Z33_PC = 2, Z33_SP = 3, Z33_SR = 4 };
+
+/* Codes of exceptions: for z33_raise, and the detail of Z33_STOP_NO_HANDLER. */
+enum {
+    Z33_HARDWARE_INTERRUPT = 0,
+    Z33_DIV_BY_ZERO = 1,
+    Z33_INVALID_INSTRUCTION = 2,
+    Z33_PRIVILEGED_INSTRUCTION = 3,
+    Z33_TRAP = 4,
+    Z33_INVALID_MEMORY_ACCESS = 5
+};
+
+/* ---- what is answered */
+
+/* Why a run ended. 1 to 5 end in the step that they name, 6 and 7 before it. */
+enum {
+    Z33_STOP_BUDGET_SPENT = 0,
+    Z33_STOP_RESET = 1,
+    Z33_STOP_NO_HANDLER = 2,       /* an exception, and cell 200 is no instruction; detail: its code */
+    Z33_STOP_CELL_ERROR = 3,       /* a word or address that rti, rtn, or a store cannot take */
+    Z33_STOP_EXTRACT = 4,          /* an operand, register or jump target that cannot be taken */
+    Z33_STOP_INVALID_REGISTER = 5, /* pc, sp or sr cannot take the value; detail: the register */
+    Z33_STOP_OUTPUT_FULL = 6,
+    Z33_STOP_CYCLES_FULL = 7
+};
+
+/* Why a call was refused, in checking order. place is 0 but where it is named. */
+enum {
+    Z33_REFUSAL_NONE = 0,
+    Z33_REFUSAL_CELLS = 1,        /* not 3 numbers each for 256 to 10,000 cells */
+    Z33_REFUSAL_QUEUE = 2,        /* not 1 to 4,096 bytes */
+    Z33_REFUSAL_OUTPUT = 3,       /* over 65,536 bytes */
+    Z33_REFUSAL_ROW = 4,          /* not 16 numbers; or the lowest place, from 1, with a number out of its range */
+    Z33_REFUSAL_DAMAGED_CELL = 5, /* place: its address, the lowest one */
+    Z33_REFUSAL_DELIVERY = 6,     /* more bytes than the queue has free places */
+    Z33_REFUSAL_DRAIN = 7,        /* the buffer is shorter than the output count */
+    Z33_REFUSAL_ADDRESS = 8,      /* the cell, or the image's start, is outside the cells */
+    Z33_REFUSAL_IMAGE = 9,        /* no whole cells, past the end, or with a damaged cell */
+    Z33_REFUSAL_REGISTER = 10,    /* not a, b, pc or sp; or no address for pc or sp */
+    Z33_REFUSAL_CODE = 11,        /* not 0 to 5 */
+    Z33_REFUSAL_TEXT = 13,        /* place: the line outside the grammar, with round brackets over 32 deep, or past the image */
+    Z33_REFUSAL_LABEL = 14,       /* place: the line whose label is missing, set again or beyond 256 */
+    Z33_REFUSAL_VALUE = 15        /* place: the line with a value out of range */
+};
 
 typedef struct { uint64_t refusal, place; } z33_done;
 typedef struct { uint64_t refusal, place, stop, detail, steps; } z33_ran;
@@ -18,6 +139,8 @@ typedef struct { uint64_t refusal, place, count; } z33_drained;
 typedef struct { uint64_t refusal, place, count; } z33_counted;
 typedef struct { uint64_t refusal, place; int64_t tag, first, second; } z33_cell;
 typedef struct { uint64_t refusal, place, stop, detail; } z33_raised; /* stop 0: the exception was entered */
+
+/* ---- the calls */
 
 /* Makes all cells empty and the row 0, whatever they held. */
 z33_done z33_fresh(int64_t *cells, size_t cells_len, int64_t *row, size_t row_len);
@@ -40,15 +163,21 @@ z33_cell z33_read_cell(const int64_t *cells, size_t cells_len, uint64_t address)
 /* Copies an image of whole cells over the cells from start on. */
 z33_done z33_load(int64_t *cells, size_t cells_len, const int64_t *image, size_t image_len, uint64_t start);
 
-/* Sets a (0), b (1), pc (2) or sp (3) to a word. */
+/* Sets a, b, pc or sp to a word; sr is written in the row. */
 z33_done z33_set_register(int64_t *row, size_t row_len, uint64_t reg, int64_t word);
 
 /* Enters the exception of a code 0 to 5, for one cycle; or stop 2 or 7, and then nothing has changed. */
 z33_raised z33_raise(int64_t *cells, size_t cells_len, int64_t *row, size_t row_len, uint64_t code);
 
 /* A program written as text, into the front of the image: one cell a line, the room behind is kept. count is of cells; place is the line,
- * from 1. Refusals: 9 the image is no whole number of cells; 13 a line outside the grammar, round brackets over 32 deep, or past the image;
- * 14 a label missing, set again or beyond 256; 15 a value out of range; in this order, each with its lowest line. */
+ * from 1. Refusals: 9 the image is no whole number of cells, then 13 to 15, each with its lowest line. */
 z33_counted z33_assemble(const uint8_t *text, size_t text_len, int64_t *image, size_t image_len);
+
+/* Fills an image with sound instructions drawn from a seed; count is of cells. Refusal 9: the image is no whole number of cells. */
+z33_counted z33_exercise(int64_t *image, size_t image_len, uint64_t seed);
+
+#ifdef __cplusplus
+}
+#endif
 
 #endif

@@ -42,11 +42,26 @@ enum {
     MARK_WITH_I_CLEAR,        /* run: the pending mark is taken with I clear */
     SP_UNDONE,                /* run: a stop 5 puts sp back */
     RAISE_NO_CYCLE,           /* raise: no cycle is added */
-    RAISE_KEEPS_I             /* raise: code 0 leaves I set */
+    RAISE_KEEPS_I,            /* raise: code 0 leaves I set */
+    EXERCISE_NEXT_SEED,       /* exercise: the cells of the next seed */
+    EXERCISE_LAST_CELL,       /* exercise: the last cell is left as it was */
+    EXERCISE_RAGGED,          /* exercise: an image that is no whole number of cells is taken */
+    EXERCISE_EMPTY            /* exercise: an empty image is refused */
 };
 
-enum { PC = 6, SP = 7, SR = 8, CYCLES = 9, ENABLE = 10, PENDING = 12, START = 13, COUNT = 14, WRITTEN = 15, ROW = 16 };
-enum { I = 256, HANDLER = 200 };
+enum {
+    PC = Z33_ROW_PC,
+    SP = Z33_ROW_SP,
+    SR = Z33_ROW_SR,
+    CYCLES = Z33_ROW_CYCLES,
+    ENABLE = Z33_ROW_ENABLE,
+    PENDING = Z33_ROW_PENDING,
+    START = Z33_ROW_QUEUE_START,
+    COUNT = Z33_ROW_QUEUE_COUNT,
+    WRITTEN = Z33_ROW_OUTPUT_COUNT,
+    ROW = Z33_ROW_LENGTH
+};
+enum { I = Z33_SR_INTERRUPT_ENABLE, HANDLER = Z33_INTERRUPT_HANDLER };
 
 z33_done whole_z33_fresh(int64_t *, size_t, int64_t *, size_t);
 z33_ran whole_z33_run(int64_t *, size_t, uint8_t *, size_t, uint8_t *, size_t, int64_t *, size_t, uint32_t);
@@ -56,6 +71,8 @@ z33_cell whole_z33_read_cell(const int64_t *, size_t, uint64_t);
 z33_done whole_z33_load(int64_t *, size_t, const int64_t *, size_t, uint64_t);
 z33_done whole_z33_set_register(int64_t *, size_t, uint64_t, int64_t);
 z33_raised whole_z33_raise(int64_t *, size_t, int64_t *, size_t, uint64_t);
+
+z33_counted whole_z33_exercise(int64_t *, size_t, uint64_t);
 
 z33_done z33_fresh(int64_t *cells, size_t cells_len, int64_t *row, size_t row_len) {
     if (MUTANT == MOST_CELLS && cells_len == 30003) {
@@ -235,4 +252,16 @@ z33_raised z33_raise(int64_t *cells, size_t cells_len, int64_t *row, size_t row_
         }
     }
     return raised;
+}
+
+z33_counted z33_exercise(int64_t *image, size_t image_len, uint64_t seed) {
+    if (MUTANT == EXERCISE_NEXT_SEED) seed++;
+    if (MUTANT == EXERCISE_RAGGED && image_len < 100) image_len -= image_len % 3;
+    if (MUTANT == EXERCISE_EMPTY && image_len == 0) return (z33_counted){9, 0, 0};
+    int64_t last[3] = {0, 0, 0};
+    int keeps = MUTANT == EXERCISE_LAST_CELL && image_len >= 3 && image_len % 3 == 0;
+    if (keeps) memcpy(last, image + image_len - 3, sizeof last);
+    z33_counted counted = whole_z33_exercise(image, image_len, seed);
+    if (keeps) memcpy(image + image_len - 3, last, sizeof last);
+    return counted;
 }

@@ -7,16 +7,9 @@
 
 #include "z33.h"
 
-_Static_assert(sizeof(z33_done) == 16, "z33_done is two numbers");
-_Static_assert(sizeof(z33_ran) == 40, "z33_ran is five numbers");
-_Static_assert(sizeof(z33_drained) == 24, "z33_drained is three numbers");
-_Static_assert(sizeof(z33_counted) == 24, "z33_counted is three numbers");
-_Static_assert(sizeof(z33_cell) == 40, "z33_cell is five numbers");
-_Static_assert(sizeof(z33_raised) == 32, "z33_raised is four numbers");
+enum { CELLS = 2048, QUEUE = 256, OUTPUT = 4096, ROW = Z33_ROW_LENGTH, BUDGET = 100000, NUMBERS = Z33_CELL_LENGTH * CELLS };
 
-enum { CELLS = 2048, QUEUE = 256, OUTPUT = 4096, ROW = 16, BUDGET = 100000 };
-
-static int64_t cells[3 * CELLS];
+static int64_t cells[NUMBERS];
 static uint8_t queue[QUEUE];
 static uint8_t output[OUTPUT];
 static int64_t row[ROW];
@@ -35,23 +28,23 @@ static void is_done(z33_done done, const char *what) {
 /* start,0,0,0 and the two cells: add 5 to a, reset. */
 static void start(void) {
     static const int64_t image[] = {202, 5, 0, 20702, 0, 0};
-    is_done(z33_fresh(cells, 3 * CELLS, row, ROW), "fresh was refused");
-    is_done(z33_load(cells, 3 * CELLS, image, 6, 0), "load was refused");
-    is_done(z33_set_register(row, ROW, 2, 0), "pc was refused");
-    is_done(z33_set_register(row, ROW, 3, 0), "sp was refused");
+    is_done(z33_fresh(cells, NUMBERS, row, ROW), "fresh was refused");
+    is_done(z33_load(cells, NUMBERS, image, 6, 0), "load was refused");
+    is_done(z33_set_register(row, ROW, Z33_PC, 0), "pc was refused");
+    is_done(z33_set_register(row, ROW, Z33_SP, 0), "sp was refused");
 }
 
 static void worked_run(void) {
     start();
-    z33_ran ran = z33_run(cells, 3 * CELLS, queue, QUEUE, output, OUTPUT, row, ROW, BUDGET);
+    z33_ran ran = z33_run(cells, NUMBERS, queue, QUEUE, output, OUTPUT, row, ROW, BUDGET);
     due(ran.refusal == 0 && ran.place == 0, "run was refused");
     printf("stop,%" PRIu64 ",%" PRIu64 "\n", ran.stop, ran.detail);
     printf("steps,%" PRIu64 "\n", ran.steps);
-    printf("cycles,%" PRId64 "\n", row[9]);
-    printf("regs,%" PRId64 ",%" PRId64 ",%" PRId64 "\n", row[6], row[7], row[8]);
-    printf("a,%" PRId64 ",%" PRId64 ",%" PRId64 "\n", row[0], row[1], row[2]);
-    printf("b,%" PRId64 ",%" PRId64 ",%" PRId64 "\n", row[3], row[4], row[5]);
-    printf("out,%" PRId64 "\n", row[15]);
+    printf("cycles,%" PRId64 "\n", row[Z33_ROW_CYCLES]);
+    printf("regs,%" PRId64 ",%" PRId64 ",%" PRId64 "\n", row[Z33_ROW_PC], row[Z33_ROW_SP], row[Z33_ROW_SR]);
+    printf("a,%" PRId64 ",%" PRId64 ",%" PRId64 "\n", row[Z33_ROW_A], row[Z33_ROW_A + Z33_FIRST], row[Z33_ROW_A + Z33_SECOND]);
+    printf("b,%" PRId64 ",%" PRId64 ",%" PRId64 "\n", row[Z33_ROW_B], row[Z33_ROW_B + Z33_FIRST], row[Z33_ROW_B + Z33_SECOND]);
+    printf("out,%" PRId64 "\n", row[Z33_ROW_OUTPUT_COUNT]);
 }
 
 /* The other calls once each: a byte in, a cell out, an exception without handler, nothing to drain. */
@@ -59,14 +52,20 @@ static void other_calls(void) {
     static const uint8_t bytes[] = {65};
     start();
     is_done(z33_deliver(queue, QUEUE, row, ROW, bytes, 1), "deliver was refused");
-    due(queue[0] == 65 && row[14] == 1, "the byte is not in the queue");
-    z33_cell cell = z33_read_cell(cells, 3 * CELLS, 1);
+    due(queue[0] == 65 && row[Z33_ROW_QUEUE_COUNT] == 1, "the byte is not in the queue");
+    z33_cell cell = z33_read_cell(cells, NUMBERS, 1);
     due(cell.refusal == 0 && cell.tag == 20702 && cell.first == 0 && cell.second == 0, "cell 1 is not the reset");
-    z33_raised raised = z33_raise(cells, 3 * CELLS, row, ROW, 4);
-    due(raised.refusal == 0 && raised.stop == 2 && raised.detail == 4, "raise found a handler");
+    z33_raised raised = z33_raise(cells, NUMBERS, row, ROW, Z33_TRAP);
+    due(raised.refusal == 0 && raised.stop == Z33_STOP_NO_HANDLER && raised.detail == Z33_TRAP, "raise found a handler");
     uint8_t buffer[1] = {7};
     z33_drained drained = z33_drain(output, OUTPUT, row, ROW, buffer, 1);
     due(drained.refusal == 0 && drained.count == 0 && buffer[0] == 7, "drain gave something");
+    int64_t made[6];
+    z33_counted counted = z33_exercise(made, 6, 0);
+    due(counted.refusal == 0 && counted.count == 2 && made[0] == 2572 && made[1] == 14370 && made[3] == 17602,
+        "the exercise load of seed 0 is another");
+    is_done(z33_load(cells, 3 * CELLS, made, 6, 0), "the exercise load was refused");
+    due(z33_exercise(made, 5, 0).refusal == 9, "five numbers were taken for cells");
 }
 
 /* The worked run's two cells, written as text. */
@@ -79,33 +78,34 @@ static void as_text(void) {
     due(image[3] == 20702 && image[4] == 0 && image[5] == 0, "the second line is not reset");
     due(image[6] == 7 && image[7] == 7 && image[8] == 7, "the room behind has changed");
     counted = z33_assemble((const uint8_t *)text, sizeof text - 1, image, 3);
-    due(counted.refusal == 13 && counted.place == 2 && counted.count == 0 && image[0] == 202, "one cell for two lines");
+    due(counted.refusal == Z33_REFUSAL_TEXT && counted.place == 2 && counted.count == 0 && image[0] == 202, "one cell for two lines");
     due(z33_assemble(NULL, 0, NULL, 0).refusal == 0, "nothing into nothing");
 }
 
 static void null_is_refused(void) {
-    due(z33_fresh(NULL, 0, NULL, 0).refusal == 1, "fresh without cells");
-    due(z33_fresh(cells, 3 * CELLS, NULL, 0).refusal == 4, "fresh without a row");
-    due(z33_run(NULL, 0, NULL, 0, NULL, 0, NULL, 0, 1).refusal == 1, "run without anything");
-    due(z33_run(cells, 3 * CELLS, NULL, 0, NULL, 0, NULL, 0, 1).refusal == 2, "run without a queue");
-    due(z33_run(cells, 3 * CELLS, queue, QUEUE, NULL, 0, NULL, 0, 1).refusal == 4, "run without a row");
-    due(z33_deliver(NULL, 0, row, ROW, NULL, 0).refusal == 2, "deliver without a queue");
-    due(z33_deliver(queue, QUEUE, NULL, 0, NULL, 0).refusal == 4, "deliver without a row");
-    due(z33_drain(NULL, 0, NULL, 0, NULL, 0).refusal == 4, "drain without a row");
-    due(z33_read_cell(NULL, 0, 0).refusal == 1, "read without cells");
-    due(z33_load(NULL, 0, NULL, 0, 0).refusal == 1, "load without cells");
-    due(z33_set_register(NULL, 0, 0, 0).refusal == 4, "set register without a row");
-    due(z33_raise(NULL, 0, NULL, 0, 0).refusal == 1, "raise without cells");
-    due(z33_raise(cells, 3 * CELLS, NULL, 0, 0).refusal == 4, "raise without a row");
+    due(z33_fresh(NULL, 0, NULL, 0).refusal == Z33_REFUSAL_CELLS, "fresh without cells");
+    due(z33_fresh(cells, NUMBERS, NULL, 0).refusal == Z33_REFUSAL_ROW, "fresh without a row");
+    due(z33_run(NULL, 0, NULL, 0, NULL, 0, NULL, 0, 1).refusal == Z33_REFUSAL_CELLS, "run without anything");
+    due(z33_run(cells, NUMBERS, NULL, 0, NULL, 0, NULL, 0, 1).refusal == Z33_REFUSAL_QUEUE, "run without a queue");
+    due(z33_run(cells, NUMBERS, queue, QUEUE, NULL, 0, NULL, 0, 1).refusal == Z33_REFUSAL_ROW, "run without a row");
+    due(z33_deliver(NULL, 0, row, ROW, NULL, 0).refusal == Z33_REFUSAL_QUEUE, "deliver without a queue");
+    due(z33_deliver(queue, QUEUE, NULL, 0, NULL, 0).refusal == Z33_REFUSAL_ROW, "deliver without a row");
+    due(z33_drain(NULL, 0, NULL, 0, NULL, 0).refusal == Z33_REFUSAL_ROW, "drain without a row");
+    due(z33_read_cell(NULL, 0, 0).refusal == Z33_REFUSAL_CELLS, "read without cells");
+    due(z33_load(NULL, 0, NULL, 0, 0).refusal == Z33_REFUSAL_CELLS, "load without cells");
+    due(z33_set_register(NULL, 0, 0, 0).refusal == Z33_REFUSAL_ROW, "set register without a row");
+    due(z33_raise(NULL, 0, NULL, 0, 0).refusal == Z33_REFUSAL_CELLS, "raise without cells");
+    due(z33_raise(cells, NUMBERS, NULL, 0, 0).refusal == Z33_REFUSAL_ROW, "raise without a row");
 }
 
 /* An output record, a drain buffer, an image and bytes to deliver may be empty. */
 static void null_is_taken(void) {
     start();
-    due(z33_run(cells, 3 * CELLS, queue, QUEUE, NULL, 0, row, ROW, 1).steps == 1, "run without an output record");
+    due(z33_run(cells, NUMBERS, queue, QUEUE, NULL, 0, row, ROW, 1).steps == 1, "run without an output record");
     is_done(z33_deliver(queue, QUEUE, row, ROW, NULL, 0), "no bytes were refused");
     due(z33_drain(NULL, 0, row, ROW, NULL, 0).refusal == 0, "drain without an output record");
-    is_done(z33_load(cells, 3 * CELLS, NULL, 0, CELLS - 1), "an empty image was refused");
+    is_done(z33_load(cells, NUMBERS, NULL, 0, CELLS - 1), "an empty image was refused");
+    due(z33_exercise(NULL, 0, 1).refusal == 0, "an empty image was not filled");
 }
 
 int main(void) {

@@ -1,18 +1,38 @@
--- Operands by mode, and by the cell of their register: what the proofs of this crate and of those above cite.
-use mathlib.Core.Path.{_≡_, refl, ap}
+-- Operands by mode, and what was taken as a result of the definition: what the proofs of this crate and of those above cite.
+use mathlib.Core.Path.{_≡_, refl, sym, ap, _∙_}
+use mathlib.Core.Bool.{true, false, true≢false}
 use mathlib.Core.List.{List}
-use Prim.Native.Nat.{ℕ, zero, suc}
+use Prim.Native.Nat.{ℕ, zero, suc, _<_}
+use borrow.Author.Tests.{ltb-true}
 use lib.IntN.{ℤ}
 use Rattle.definition.specs.declared.Cell.{Cell}
 use Rattle.definition.specs.declared.Registers.{Registers}
-use Rattle.definition.specs.declared.Address.the-variants.{NotAddress}
-use Rattle.definition.specs.Registers.{regAt, getReg}
-use Rattle.definition.specs.Arguments.{operand, resolve, cellThere, extractCell, wordThere, operandWord}
-use Rattle.arguments.specs.By.{resolveBy, extractBy, wordBy}
+use Rattle.definition.specs.declared.Word.{Word}
+use Rattle.definition.specs.declared.Word.the-variants.{Is, NotWord}
+use Rattle.definition.specs.declared.Address.{Address}
+use Rattle.definition.specs.declared.Address.the-variants.{At, NotAddress}
+use Rattle.definition.specs.declared.Found.{Found}
+use Rattle.definition.specs.declared.Found.the-variants.{Here, Outside}
+use Rattle.definition.specs.declared.Error.{Error}
+use Rattle.definition.specs.declared.Error.the-variants.{InvalidMemoryAccess}
+use Rattle.definition.specs.Memory.{cellCount, get, extractWord, extractAddress}
+use Rattle.definition.specs.Registers.{Reg}
+use Rattle.definition.specs.Arguments.{Operand, none, imm, reg, dir, ind, idx, operand, resolve, cellThere, extractCell}
+use Rattle.definition.specs.Exec.{Res, Exec, core, err, andThen, orWord, orAddress, orCell, read}
+use Rattle.definition.specs.Instructions.{cellOf, wordOf, targetOf, registerWord, placeOf}
+use Rattle.memory.proofs.Laws.{get-here}
+use Rattle.registers.proofs.Laws.{then-ok, then-err}
+use Rattle.arguments.specs.declared.taken.WordTaken.{WordTaken}
+use Rattle.arguments.specs.declared.taken.AddressTaken.{AddressTaken}
+use Rattle.arguments.specs.declared.taken.CellTaken.{CellTaken}
+use Rattle.arguments.specs.Operands.{given}
+use Rattle.arguments.specs.Taken.{tookWord, tookAddress, tookCell, wordRes, addressRes, cellRes}
 
-module _ (v : Cell) (w : ℤ) where
-  pub resolve-else : (m : ℕ) → (m ≡ 3 → ⊥) → (m ≡ 4 → ⊥) → (m ≡ 5 → ⊥) → NotAddress ≡ resolveBy m v w
-  unfolding resolveBy operand resolve
+-- ---- by mode
+
+module _ (r : ℕ) (w : ℤ) (s : Registers) where
+  pub resolve-else : (m : ℕ) → (m ≡ 3 → ⊥) → (m ≡ 4 → ⊥) → (m ≡ 5 → ⊥) → NotAddress ≡ resolve (operand m r w) s
+  unfolding operand resolve
   resolve-else zero h₃ h₄ h₅ = refl
   resolve-else (suc zero) h₃ h₄ h₅ = refl
   resolve-else (suc (suc zero)) h₃ h₄ h₅ = refl
@@ -21,38 +41,98 @@ module _ (v : Cell) (w : ℤ) where
   resolve-else (suc (suc (suc (suc (suc zero))))) h₃ h₄ h₅ = absurd (h₅ refl)
   resolve-else (suc (suc (suc (suc (suc (suc m)))))) h₃ h₄ h₅ = refl
 
-  pub extract-else : (l : List ℤ) (m : ℕ) → (m ≡ 1 → ⊥) → (m ≡ 2 → ⊥) → cellThere (resolveBy m v w) l ≡ extractBy m v w l
-  unfolding resolveBy extractBy operand resolve extractCell cellThere
-  extract-else l zero h₁ h₂ = refl
-  extract-else l (suc zero) h₁ h₂ = absurd (h₁ refl)
-  extract-else l (suc (suc zero)) h₁ h₂ = absurd (h₂ refl)
-  extract-else l (suc (suc (suc zero))) h₁ h₂ = refl
-  extract-else l (suc (suc (suc (suc zero)))) h₁ h₂ = refl
-  extract-else l (suc (suc (suc (suc (suc zero))))) h₁ h₂ = refl
-  extract-else l (suc (suc (suc (suc (suc (suc m)))))) h₁ h₂ = refl
+  pub given-else : (there : Found) (m : ℕ) → (m ≡ 1 → ⊥) → (m ≡ 2 → ⊥) → there ≡ given (operand m r w) there s
+  unfolding operand given
+  given-else there zero h₁ h₂ = refl
+  given-else there (suc zero) h₁ h₂ = absurd (h₁ refl)
+  given-else there (suc (suc zero)) h₁ h₂ = absurd (h₂ refl)
+  given-else there (suc (suc (suc zero))) h₁ h₂ = refl
+  given-else there (suc (suc (suc (suc zero)))) h₁ h₂ = refl
+  given-else there (suc (suc (suc (suc (suc zero))))) h₁ h₂ = refl
+  given-else there (suc (suc (suc (suc (suc (suc m)))))) h₁ h₂ = refl
 
--- the operand of the definition, over the cell of its register
-module _ (r : ℕ) (w : ℤ) (s : Registers) where
-  pub resolve-by : (m : ℕ) → resolveBy m (getReg (regAt r) s) w ≡ resolve (operand m r w) s
-  unfolding resolveBy operand resolve regAt getReg
-  resolve-by zero = refl
-  resolve-by (suc zero) = refl
-  resolve-by (suc (suc zero)) = refl
-  resolve-by (suc (suc (suc zero))) = refl
-  resolve-by (suc (suc (suc (suc zero)))) = refl
-  resolve-by (suc (suc (suc (suc (suc zero))))) = refl
-  resolve-by (suc (suc (suc (suc (suc (suc m)))))) = refl
+pub given-is : (x : Operand) (l : List ℤ) (s : Registers) → given x (cellThere (resolve x s) l) s ≡ extractCell x l s
+unfolding given extractCell cellThere resolve
+given-is none l s = refl
+given-is (imm w) l s = refl
+given-is (reg r) l s = refl
+given-is (dir w) l s = refl
+given-is (ind r) l s = refl
+given-is (idx r k) l s = refl
 
-  pub extract-by : (m : ℕ) (l : List ℤ) → extractBy m (getReg (regAt r) s) w l ≡ extractCell (operand m r w) l s
-  unfolding extractBy operand resolve extractCell regAt getReg
-  extract-by zero l = refl
-  extract-by (suc zero) l = refl
-  extract-by (suc (suc zero)) l = refl
-  extract-by (suc (suc (suc zero))) l = refl
-  extract-by (suc (suc (suc (suc zero)))) l = refl
-  extract-by (suc (suc (suc (suc (suc zero))))) l = refl
-  extract-by (suc (suc (suc (suc (suc (suc m)))))) l = refl
+-- ---- what was taken
 
-  pub word-by : (m : ℕ) (l : List ℤ) → wordBy m (getReg (regAt r) s) w l ≡ operandWord (operand m r w) l s
-  unfolding operandWord
-  word-by m l = ap wordThere (extract-by m l)
+module _ (l : List ℤ) (s : Registers) (e : Error) where
+  pub word-res : (w : Word) → wordRes l (tookWord (orWord w e (core l s))) ≡ orWord w e (core l s)
+  unfolding orWord
+  word-res (Is w) = refl
+  word-res NotWord = refl
+
+  pub address-res : (n : Address) → addressRes l (tookAddress (orAddress n e (core l s))) ≡ orAddress n e (core l s)
+  unfolding orAddress
+  address-res (At n) = refl
+  address-res NotAddress = refl
+
+  pub cell-res : (v : Found) → cellRes l (tookCell (orCell v e (core l s))) ≡ orCell v e (core l s)
+  unfolding orCell
+  cell-res (Here v) = refl
+  cell-res Outside = refl
+
+-- each as the result that the definition has
+module _ (l : List ℤ) (s : Registers) where
+  pub word-of-is : (x : Operand) (t : WordTaken) → t ≡ tookWord (wordOf x (core l s)) → wordRes l t ≡ wordOf x (core l s)
+  word-of-is x t h = ap (wordRes l) h ∙ word-res l s _ _
+
+  pub register-word-is : (r : Reg) (t : WordTaken) → t ≡ tookWord (registerWord r (core l s)) → wordRes l t ≡ registerWord r (core l s)
+  register-word-is r t h = ap (wordRes l) h ∙ word-res l s _ _
+
+  pub target-of-is : (x : Operand) (t : AddressTaken) → t ≡ tookAddress (targetOf x (core l s)) → addressRes l t ≡ targetOf x (core l s)
+  target-of-is x t h = ap (addressRes l) h ∙ address-res l s _ _
+
+  pub address-of-is : (x : Operand) (t : AddressTaken) → t ≡ tookAddress (placeOf x (core l s)) → addressRes l t ≡ placeOf x (core l s)
+  address-of-is x t h = ap (addressRes l) h ∙ address-res l s _ _
+
+  pub cell-of-is : (x : Operand) (t : CellTaken) → t ≡ tookCell (cellOf x (core l s)) → cellRes l t ≡ cellOf x (core l s)
+  cell-of-is x t h = ap (cellRes l) h ∙ cell-res l s _ _
+
+  pub read-is : (n : ℕ) (t : CellTaken) → t ≡ tookCell (read n InvalidMemoryAccess (core l s)) → cellRes l t ≡ read n InvalidMemoryAccess (core l s)
+  read-is n t h = ap (cellRes l) h ∙ cell-res l s _ _
+
+  -- what was read is inside
+  pub read-inside : (n : ℕ) (t : CellTaken) → t ≡ tookCell (read n InvalidMemoryAccess (core l s)) → t .ok ≡ true → n < cellCount l
+  unfolding orCell
+  read-inside n t h k = go (get l n) refl h
+    where
+      go : (v : Found) → get l n ≡ v → t ≡ tookCell (orCell v InvalidMemoryAccess (core l s)) → n < cellCount l
+      go (Here v) e f = ltb-true n (cellCount l) (get-here l n v e)
+      go Outside e f = absurd (true≢false (sym k ∙ ap (λ (t : CellTaken). t .ok) f))
+
+  -- what a cell holds
+  pub word-in-is : (v : Cell) (e : Error) (t : WordTaken) → t ≡ tookWord (orWord (extractWord v) e (core l s)) → wordRes l t ≡ orWord (extractWord v) e (core l s)
+  word-in-is v e t h = ap (wordRes l) h ∙ word-res l s e _
+
+  pub address-in-is : (v : Cell) (e : Error) (t : AddressTaken) → t ≡ tookAddress (orAddress (extractAddress v) e (core l s)) → addressRes l t ≡ orAddress (extractAddress v) e (core l s)
+  address-in-is v e t h = ap (addressRes l) h ∙ address-res l s e _
+
+-- ---- what follows: k goes on where it was taken, else its error is the end
+
+module _ {Y : Type 0} {m : Res ℤ} {r : Res Y} (l : List ℤ) (t : WordTaken) (h : wordRes l t ≡ m) (k : ℤ → Exec Y) where
+  pub word-ok : t .ok ≡ true → r ≡ k (t .value) (core l (t .s)) → r ≡ andThen m k
+  word-ok = then-ok (t .value) (t .ok) (t .error) (core l (t .s)) h k
+
+  pub word-err : t .ok ≡ false → r ≡ err (t .error) (core l (t .s)) → r ≡ andThen m k
+  word-err = then-err (t .value) (t .ok) (t .error) (core l (t .s)) h k
+
+module _ {Y : Type 0} {m : Res ℕ} {r : Res Y} (l : List ℤ) (t : AddressTaken) (h : addressRes l t ≡ m) (k : ℕ → Exec Y) where
+  pub address-ok : t .ok ≡ true → r ≡ k (t .value) (core l (t .s)) → r ≡ andThen m k
+  address-ok = then-ok (t .value) (t .ok) (t .error) (core l (t .s)) h k
+
+  pub address-err : t .ok ≡ false → r ≡ err (t .error) (core l (t .s)) → r ≡ andThen m k
+  address-err = then-err (t .value) (t .ok) (t .error) (core l (t .s)) h k
+
+module _ {Y : Type 0} {m : Res Cell} {r : Res Y} (l : List ℤ) (t : CellTaken) (h : cellRes l t ≡ m) (k : Cell → Exec Y) where
+  pub cell-ok : t .ok ≡ true → r ≡ k (t .value) (core l (t .s)) → r ≡ andThen m k
+  cell-ok = then-ok (t .value) (t .ok) (t .error) (core l (t .s)) h k
+
+  pub cell-err : t .ok ≡ false → r ≡ err (t .error) (core l (t .s)) → r ≡ andThen m k
+  cell-err = then-err (t .value) (t .ok) (t .error) (core l (t .s)) h k

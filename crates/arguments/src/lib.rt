@@ -1,14 +1,27 @@
-// arguments.rs: what an operand names and gives. Each function is handed the cell of the operand's register, not all registers.
+// arguments.rs: what an operand names and gives. Which error an operand ends in, and what taking it leaves of the registers, is said here alone.
 use definition::Address;
 use definition::Cell;
+use definition::Error;
 use definition::Found;
+use definition::Registers;
 use definition::Word;
+use taken::AddressTaken;
+use taken::CellTaken;
+use taken::WordTaken;
 ghost use mathlib.Core.Path.{_≡_};
-ghost use Rattle.definition.specs.Word.{addressOf};
-ghost use Rattle.definition.specs.Memory.{extractAddress, extractWord};
-ghost use Rattle.definition.specs.Arguments.{indexed, cellThere, wordThere};
+ghost use mathlib.Core.List.{List};
+ghost use lib.IntN.{ℤ};
+ghost use Rattle.definition.specs.declared.Error.the-variants.{InvalidMemoryAccess};
+ghost use Rattle.definition.specs.Memory.{extractWord};
+ghost use Rattle.definition.specs.Registers.{regAt};
+ghost use Rattle.definition.specs.Arguments.{indexed, resolve, cellThere, extractCell, wordThere};
+ghost use Rattle.definition.specs.Exec.{core, read};
+ghost use Rattle.definition.specs.Instructions.{cellOf, wordOf, targetOf, registerWord, placeOf};
 ghost use Rattle.memory.specs.Overlay.{overlay};
-ghost use Rattle.arguments.specs.By.{resolveBy, extractBy, wordBy};
+ghost use Rattle.arguments.specs.Operands.{argOf, given};
+ghost use Rattle.arguments.specs.Taken.{tookWord, tookAddress, tookCell};
+
+pub mod taken;
 
 // An operand as decoded: "modes: 0 none, 1 immediate, 2 register, 3 direct, 4 indirect, 5 indexed".
 pub struct Arg {
@@ -17,22 +30,8 @@ pub struct Arg {
     pub number: i64,
 }
 
-// Dir
-pub fn direct(number: i64) -> Address
-    ensures { λ r. ⌜ r ≡ addressOf number ⌝ }
-{
-    word::to_address(number)
-}
-
-// Ind
-pub fn indirect(rc: Cell) -> Address
-    ensures { λ r. ⌜ r ≡ extractAddress rc ⌝ }
-{
-    memory::extract_address(rc)
-}
-
 // Idx: "an indexed sum wraps at 64 bits before it is tested as an address"
-pub fn indexed(rc: Cell, number: i64) -> Address
+fn indexed(rc: Cell, number: i64) -> Address
     ensures { λ r. ⌜ r ≡ indexed (extractWord rc) number ⌝ }
 {
     match memory::extract_word(rc) {
@@ -44,20 +43,21 @@ pub fn indexed(rc: Cell, number: i64) -> Address
     }
 }
 
-// ResolveAddress
-pub fn resolve(rc: Cell, mode: u32, number: i64) -> Address
-    ensures { λ r. ⌜ r ≡ resolveBy mode rc number ⌝ }
+// ResolveAddress: Dir, Ind, Idx
+fn resolve(s: Registers, x: Arg) -> Address
+    ensures { λ r. ⌜ r ≡ resolve (argOf x) s ⌝ }
 {
+    let mode = x.mode;
     match mode {
-        3 => direct(number),
-        4 => indirect(rc),
-        5 => indexed(rc, number),
+        3 => word::to_address(x.number),
+        4 => memory::extract_address(registers::get_reg(s, x.reg)),
+        5 => indexed(registers::get_reg(s, x.reg), x.number),
         _ => Address::NotAddress,
     }
 }
 
 // The cell at an address that may be none.
-pub fn cell_there(cells: &[i64], n: Address) -> Found
+fn cell_there(cells: &[i64], n: Address) -> Found
     ensures { λ r. ⌜ r ≡ cellThere n (now (cells .entry)) ⌝ }
 {
     match n {
@@ -67,7 +67,7 @@ pub fn cell_there(cells: &[i64], n: Address) -> Found
 }
 
 // The same after the write that waits: v at `at`.
-pub fn there_over(cells: &[i64], at: u32, v: Cell, n: Address) -> Found
+fn there_over(cells: &[i64], at: u32, v: Cell, n: Address) -> Found
     ensures { λ r. ⌜ r ≡ cellThere n (overlay at v (now (cells .entry))) ⌝ }
 {
     match n {
@@ -76,29 +76,26 @@ pub fn there_over(cells: &[i64], at: u32, v: Cell, n: Address) -> Found
     }
 }
 
+// What the operand gives, where `there` stands at its address.
+fn given(s: Registers, x: Arg, there: Found) -> Found
+    ensures { λ r. ⌜ r ≡ given (argOf x) there s ⌝ }
+{
+    let mode = x.mode;
+    match mode {
+        1 => Found::Here(memory::word_cell(x.number)),
+        2 => Found::Here(registers::get_reg(s, x.reg)),
+        _ => there,
+    }
+}
+
 // ExtractValue
-pub fn extract_cell(cells: &[i64], rc: Cell, mode: u32, number: i64) -> Found
-    ensures { λ r. ⌜ r ≡ extractBy mode rc number (now (cells .entry)) ⌝ }
+fn extract_cell(cells: &[i64], s: Registers, x: Arg) -> Found
+    ensures { λ r. ⌜ r ≡ extractCell (argOf x) (now (cells .entry)) s ⌝ }
 {
-    match mode {
-        1 => Found::Here(memory::word_cell(number)),
-        2 => Found::Here(rc),
-        _ => cell_there(cells, resolve(rc, mode, number)),
-    }
+    given(s, x, cell_there(cells, resolve(s, x)))
 }
 
-// ExtractValue for call, which has pushed before it reads.
-pub fn extract_over(cells: &[i64], at: u32, v: Cell, rc: Cell, mode: u32, number: i64) -> Found
-    ensures { λ r. ⌜ r ≡ extractBy mode rc number (overlay at v (now (cells .entry))) ⌝ }
-{
-    match mode {
-        1 => Found::Here(memory::word_cell(number)),
-        2 => Found::Here(rc),
-        _ => there_over(cells, at, v, resolve(rc, mode, number)),
-    }
-}
-
-pub fn word_there(x: Found) -> Word
+fn word_there(x: Found) -> Word
     ensures { λ r. ⌜ r ≡ wordThere x ⌝ }
 {
     match x {
@@ -107,16 +104,64 @@ pub fn word_there(x: Found) -> Word
     }
 }
 
-// The operand's word.
-pub fn operand_word(cells: &[i64], rc: Cell, mode: u32, number: i64) -> Word
-    ensures { λ r. ⌜ r ≡ wordBy mode rc number (now (cells .entry)) ⌝ }
+// The operand's cell.
+pub fn cell_of(cells: &[i64], s: Registers, x: Arg) -> CellTaken
+    ensures { λ t. ⌜ t ≡ tookCell (cellOf (argOf x) (core (now (cells .entry)) s)) ⌝ }
 {
-    word_there(extract_cell(cells, rc, mode, number))
+    taken::or_cell(s, extract_cell(cells, s, x), Error::Extract)
 }
 
-// The same for call, which has pushed before it reads.
-pub fn word_over(cells: &[i64], at: u32, v: Cell, rc: Cell, mode: u32, number: i64) -> Word
-    ensures { λ r. ⌜ r ≡ wordBy mode rc number (overlay at v (now (cells .entry))) ⌝ }
+// The operand's word.
+pub fn word_of(cells: &[i64], s: Registers, x: Arg) -> WordTaken
+    ensures { λ t. ⌜ t ≡ tookWord (wordOf (argOf x) (core (now (cells .entry)) s)) ⌝ }
 {
-    word_there(extract_over(cells, at, v, rc, mode, number))
+    taken::or_word(s, word_there(extract_cell(cells, s, x)), Error::Extract)
+}
+
+// The word of a register.
+pub fn register_word(s: Registers, r: u32) -> WordTaken
+    ensures { λ t. ⌜ ((l : List ℤ) → t ≡ tookWord (registerWord (regAt r) (core l s))) ⌝ }
+{
+    taken::or_word(
+        s,
+        memory::extract_word(registers::get_reg(s, r)),
+        Error::Extract,
+    )
+}
+
+// The operand's word, a jump's target.
+pub fn target_of(cells: &[i64], s: Registers, x: Arg) -> AddressTaken
+    ensures { λ t. ⌜ t ≡ tookAddress (targetOf (argOf x) (core (now (cells .entry)) s)) ⌝ }
+{
+    taken::or_address(
+        s,
+        memory::as_address(word_there(extract_cell(cells, s, x))),
+        Error::Extract,
+    )
+}
+
+// The same for call, which has pushed before it reads: v at `at`.
+pub fn target_over(cells: &[i64], at: u32, v: Cell, s: Registers, x: Arg) -> AddressTaken
+    ensures { λ t. ⌜ t ≡ tookAddress (targetOf (argOf x) (core (overlay at v (now (cells .entry))) s)) ⌝ }
+{
+    let there = there_over(cells, at, v, resolve(s, x));
+    taken::or_address(
+        s,
+        memory::as_address(word_there(given(s, x, there))),
+        Error::Extract,
+    )
+}
+
+// The address that the operand names.
+pub fn address_of(s: Registers, x: Arg) -> AddressTaken
+    ensures { λ t. ⌜ ((l : List ℤ) → t ≡ tookAddress (placeOf (argOf x) (core l s))) ⌝ }
+{
+    taken::or_address(s, resolve(s, x), Error::CellError)
+}
+
+// A cell read at an address of the machine's own: sp, or where pc and sr are saved.
+pub fn read(cells: &[i64], s: Registers, n: u32) -> CellTaken
+    ensures { λ t. ⌜ t ≡ tookCell (read n InvalidMemoryAccess (core (now (cells .entry)) s)) ⌝ }
+{
+    taken::or_cell(s, memory::get(cells, n), Error::InvalidMemoryAccess)
 }

@@ -1,12 +1,14 @@
 // "set register (row)": "a, b, pc, sp may be set to a word, sr not"
 use definition::Cell;
 use definition::Done;
+use definition::places;
 ghost use mathlib.Core.Path.{_≡_};
 ghost use lib.ListN.{length};
+ghost use Rattle.definition.specs.Constants.{ROW};
 ghost use Rattle.definition.specs.Calls.{called, setRegister, withRegister};
 
 pub fn put_register(row: &mut [i64], r: u64, w: i64)
-    requires { ⌜ length (now row) ≡ 16 ⌝ }
+    requires { ⌜ length (now row) ≡ ROW ⌝ }
     ensures { λ d. ⌜ now (row .exit) ≡ withRegister r w (now (row .entry)) ⌝ }
 {
     let v = Cell {
@@ -15,10 +17,10 @@ pub fn put_register(row: &mut [i64], r: u64, w: i64)
         second: 0,
     };
     match r {
-        0 => row::put_cell(row, 0, v),
-        1 => row::put_cell(row, 3, v),
-        2 => row::put(row, 6, w),
-        _ => row::put(row, 7, w),
+        0 => row::put_cell(row, places::A, v),
+        1 => row::put_cell(row, places::B, v),
+        2 => row::put(row, places::PC, w),
+        _ => row::put(row, places::SP, w),
     }
 }
 

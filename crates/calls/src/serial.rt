@@ -1,19 +1,21 @@
 // "deliver (queue, row), drain (output, row)"
 use definition::Done;
 use definition::Drained;
+use definition::places;
 ghost use mathlib.Core.Path.{_≡_};
 ghost use Prim.Native.Nat.{_+_, _≤_};
+ghost use Rattle.definition.specs.Constants.{ROW-START, ROW-COUNT};
 ghost use Rattle.definition.specs.Io.{around};
 ghost use Rattle.definition.specs.Calls.{called, deliver, drain, numberOfRow};
-ghost use Rattle.row.specs.Row.{RowFits};
+ghost use Rattle.definition.specs.Accepted.{RowFits};
 
 // Where the first delivered byte goes: behind the unread ones, in a queue of q places.
 pub fn first_free(row: &[i64], q: usize) -> usize
     requires { ⌜ (q ≤ 4096) × RowFits q 65536 (now row) ⌝ }
-    ensures { λ r. ⌜ r ≡ around q (numberOfRow 14 (now (row .entry)) + numberOfRow 15 (now (row .entry))) ⌝ }
+    ensures { λ r. ⌜ r ≡ around q (numberOfRow ROW-START (now (row .entry)) + numberOfRow ROW-COUNT (now (row .entry))) ⌝ }
 {
-    let start = row::number_at(row, 13) as usize;
-    let count = row::number_at(row, 14) as usize;
+    let start = row::number_at(row, places::START) as usize;
+    let count = row::number_at(row, places::COUNT) as usize;
     console::around(q, start + count)
 }
 
@@ -35,9 +37,9 @@ pub fn drain(output: &[u8], row: &mut [i64], buffer: &mut [u8]) -> Drained
 {
     let d = refusals::drain_check(output, row, buffer);
     if d.refusal == 0 {
-        let n = row::number_at(row, 15);
+        let n = row::number_at(row, places::WRITTEN);
         console::drain_to(buffer, output, n as usize);
-        row::put(row, 15, 0);
+        row::put(row, places::WRITTEN, 0);
         return Drained {
             refusal: 0,
             place: 0,

@@ -1,10 +1,12 @@
 // "Turned back, in checking order": the tests that several calls make.
 use definition::Done;
+use definition::places;
 ghost use mathlib.Core.Path.{_≡_};
 ghost use mathlib.Core.Bool.{cond};
 ghost use Prim.Native.Nat.{_+_, _<_, _≤_};
 ghost use lib.IntN.{pos};
 ghost use lib.ListN.{length, getD, drop};
+ghost use Rattle.definition.specs.Constants.{ROW};
 ghost use Rattle.definition.specs.Word.{addressOf};
 ghost use Rattle.definition.specs.Memory.{cell};
 ghost use Rattle.definition.specs.Encoding.{sound, isAddress};
@@ -94,34 +96,49 @@ pub fn sound_at(row: &[i64], i: usize) -> bool
     encoding::is_sound(row::cell_at(row, i))
 }
 
-// "4. [...] its number at this place (from 1, the lowest such) is out of range": places 11 to 16.
+// "4. [...] its number at this place (from 1, the lowest such) is out of range": from enable on.
 pub fn console_numbers(row: &[i64], q: usize, o: usize) -> Done
-    requires { ⌜ (length (now row) ≡ 16) × ((q ≤ 4096) × (o ≤ 65536)) ⌝ }
+    requires { ⌜ (length (now row) ≡ ROW) × ((q ≤ 4096) × (o ≤ 65536)) ⌝ }
     ensures { λ r. ⌜ r ≡ verdict (drop 6 (rowTests q o (now (row .entry)))) ⌝ }
 {
-    let d = check(below_at(row, 15, o as u64 + 1), 4, 16, accept());
-    let d = check(below_at(row, 14, q as u64 + 1), 4, 15, d);
-    let d = check(below_at(row, 13, q as u64), 4, 14, d);
-    let d = check(is_mark_at(row, 12), 4, 13, d);
-    let d = check(is_mark_at(row, 11), 4, 12, d);
-    check(is_mark_at(row, 10), 4, 11, d)
+    let d = check(
+        below_at(row, places::WRITTEN, o as u64 + 1),
+        4,
+        places::ROW_WRITTEN,
+        accept(),
+    );
+    let d = check(
+        below_at(row, places::COUNT, q as u64 + 1),
+        4,
+        places::ROW_COUNT,
+        d,
+    );
+    let d = check(
+        below_at(row, places::START, q as u64),
+        4,
+        places::ROW_START,
+        d,
+    );
+    let d = check(is_mark_at(row, places::PENDING), 4, places::ROW_PENDING, d);
+    let d = check(is_mark_at(row, places::FLAG), 4, places::ROW_FLAG, d);
+    check(is_mark_at(row, places::ENABLE), 4, places::ROW_ENABLE, d)
 }
 
 // "a damaged a or b counts at place 1 or 4": the whole row, if it is 16 long.
 pub fn row_numbers(row: &[i64], q: usize, o: usize) -> Done
-    requires { ⌜ (length (now row) ≡ 16) × ((q ≤ 4096) × (o ≤ 65536)) ⌝ }
+    requires { ⌜ (length (now row) ≡ ROW) × ((q ≤ 4096) × (o ≤ 65536)) ⌝ }
     ensures { λ r. ⌜ r ≡ verdict (drop 1 (rowTests q o (now (row .entry)))) ⌝ }
 {
     let d = check(
-        below_at(row, 9, 0x8000_0000_0000_0000),
+        below_at(row, places::CYCLES, 0x8000_0000_0000_0000),
         4,
-        10,
+        places::ROW_CYCLES,
         console_numbers(row, q, o),
     );
-    let d = check(address_at(row, 7), 4, 8, d);
-    let d = check(address_at(row, 6), 4, 7, d);
-    let d = check(sound_at(row, 3), 4, 4, d);
-    check(sound_at(row, 0), 4, 1, d)
+    let d = check(address_at(row, places::SP), 4, places::ROW_SP, d);
+    let d = check(address_at(row, places::PC), 4, places::ROW_PC, d);
+    let d = check(sound_at(row, places::B), 4, places::ROW_B, d);
+    check(sound_at(row, places::A), 4, places::ROW_A, d)
 }
 
 // "4. The row is not 16 long, or its number at this place [...] is out of range"
@@ -129,7 +146,7 @@ pub fn row_check(row: &[i64], q: usize, o: usize) -> Done
     requires { ⌜ (q ≤ 4096) × (o ≤ 65536) ⌝ }
     ensures { λ r. ⌜ r ≡ verdict (rowTests q o (now (row .entry))) ⌝ }
 {
-    if row.len() == 16 {
+    if row.len() == places::ROW {
         row_numbers(row, q, o)
     } else {
         Done {

@@ -7,7 +7,7 @@ use native.Mathlib.Omega.{arith}
 use lib.IntN.{ℤ, pos}
 use lib.ListN.{length}
 use lib.Dec.{ltb}
-use borrow.Author.Tests.{ltb-true, ltb-false, lt-ltb}
+use borrow.Author.Tests.{ltb-true, ltb-false}
 use Rattle.definition.specs.declared.Registers.{Registers}
 use Rattle.definition.specs.declared.Error.{Error}
 use Rattle.definition.specs.Constants.{CYCLES-END}
@@ -15,27 +15,27 @@ use Rattle.definition.specs.Exception.{Ending, exception, stop, ending, HARDWAR
 use Rattle.definition.specs.Memory.{cellCount, empty}
 use Rattle.definition.specs.Registers.{refused, interruptEnable}
 use Rattle.definition.specs.Encoding.{Instruction}
-use Rattle.definition.specs.Io.{Console, with-marks, with-pending}
-use Rattle.definition.specs.Computer.{Core, core, Exec, Res, ok, err, andThen, _>>=_, return}
+use Rattle.definition.specs.Exec.{Core, core, Exec, Res, ok, err, andThen, _>>=_, return}
 use Rattle.definition.specs.Instructions.{Request, execute}
 use Rattle.definition.specs.Runtime as M
-use Rattle.definition.specs.Runtime.{Machine, machine, Executed, Run}
-use Rattle.definition.proofs.Row.{AcceptedMachine}
+use Rattle.definition.specs.Runtime.{Machine, machine, with-core, with-cycles, with-mark, Executed, Run, runs}
+use Rattle.definition.specs.Accepted.{AcceptedMachine}
+use Rattle.definition.proofs.Step.{limit-below}
 use Rattle.definition.proofs.Accepted.{OutcomeHas, step-accepted}
 use Rattle.memory.specs.Overlay.{overlay}
-use Rattle.memory.proofs.Laws.{over-none}
-use Rattle.registers.specs.Answer.{result, settled}
+use Rattle.memory.proofs.Laws.{over-none, over-no-cell}
+use Rattle.registers.specs.Meaning.{result, settled}
 use Rattle.stores.specs.declared.Made.{Made}
-use Rattle.encoding.specs.Instr.{instrOf}
+use Rattle.encoding.specs.Meaning.{instrOf}
 use Rattle.console.specs.declared.ConsoleState.{ConsoleState}
-use Rattle.console.specs.State.{consoleOf}
+use Rattle.console.specs.Meaning.{consoleOf}
 use Rattle.runtime.specs.declared.State.{State}
 use Rattle.runtime.specs.declared.fetch.Fetched.{Fetched}
 use Rattle.runtime.specs.declared.perform.Served.{Served}
 use Rattle.runtime.specs.declared.arrive.Performed.{Performed}
 use Rattle.runtime.specs.declared.arrive.Arrival.{Arrival}
 use Rattle.runtime.specs.declared.decide.Decision.{Decision}
-use Rattle.runtime.specs.Meaning.{machineAt, fetchedRes, Fetches, sent, performedRes, concluded, kept, keptMade, attempted, executedAt, servedTurn, Serves, Concludes, outcomeAt, decidedOf, Decides}
+use Rattle.runtime.specs.Meaning.{machineAt, fetchedRes, Fetches, performedRes, performedAt, concluded, kept, keptMade, attempted, executedAt, servedTurn, Serves, Concludes, outcomeAt, decidedOf, Decides}
 use Rattle.computer.specs.Meaning.{NEAR, quiet}
 
 -- ---- fetch and execute
@@ -70,7 +70,7 @@ module _ (l : List ℤ) (s : Registers) (f : Fetched) (h : Fetches l s f) where
   pub turn-err : cellCount l ≤ 10000 → (q o : List ℕ) (n : ℕ) (k : ConsoleState) → f .ok ≡ false → concluded l q o (kept (settled (f .s) (refused (f .error))) k) (f .i .cost) n ≡ M.turn (machine (core l s) n (consoleOf k q o))
   unfolding M.turn M.afterAttempt M.conclude
   turn-err few q o n k e =
-      ap (λ (x : List ℤ). M.conclude (f .i .cost) n (consoleOf k q o) (err (f .error) (core x (f .s)))) (over-none l 4294967295 empty (omega arith))
+      ap (λ (x : List ℤ). M.conclude (f .i .cost) (machine (core x (f .s)) n (consoleOf k q o)) (err (f .error) (core x (f .s)))) (over-no-cell l empty (omega arith))
       ∙ ap (λ (x : Res Executed). M.afterAttempt (machine (core l s) n (consoleOf k q o)) x) (attempt-err e)
 
 -- ---- the step
@@ -106,19 +106,14 @@ poll-soon : (m : Machine) → M.reached (M.settle (M.poll m)) .cycles ≤ m .cyc
 unfolding M.settle M.poll M.reached
 poll-soon m = go (interruptEnable (m .core .regs) && m .console .marks .pending)
   where
-    go : (b : Bool) → M.reached (M.settle (cond b (M.enters HARDWARE-INTERRUPT (machine (m .core) (m .cycles) (with-marks (with-pending false (m .console .marks)) (m .console)))) (M.completes m))) .cycles ≤ m .cycles + 1
+    go : (b : Bool) → M.reached (M.settle (cond b (M.enters HARDWARE-INTERRUPT (with-mark false m)) (M.completes m))) .cycles ≤ m .cycles + 1
     go true = recover-soon HARDWARE-INTERRUPT _
     go false = omega arith
 
-conclude-soon : (cost n : ℕ) (k : Console) (r : Res (Unit {0})) → M.reached (M.settle (M.conclude cost n k r)) .cycles ≤ n + cost + 1
+conclude-soon : (cost : ℕ) (m : Machine) (r : Res (Unit {0})) → M.reached (M.settle (M.conclude cost m r)) .cycles ≤ m .cycles + cost + 1
 unfolding M.conclude
-conclude-soon cost n k (ok u c) = poll-soon (machine c (n + cost) k)
-conclude-soon cost n k (err e c) = let h = ends-soon (ending e) (machine c n k) in omega arith
-
--- far from stop 7 it does not matter what stop 7 would leave
-limit-in : (m : Machine) (o : M.Outcome) → M.reached o .cycles < CYCLES-END → M.limit m o ≡ o
-unfolding M.limit
-limit-in m o h = rw (lt-ltb _ _ h)
+conclude-soon cost m (ok u c) = poll-soon (with-cycles (m .cycles + cost) (with-core c m))
+conclude-soon cost m (err e c) = let h = ends-soon (ending e) (with-core c m) in omega arith
 
 module _ (l : List ℤ) (q o : List ℕ) (m : State) where
   abbrev before : Machine
@@ -127,7 +122,7 @@ module _ (l : List ℤ) (q o : List ℕ) (m : State) where
   pub full-step : (cost : ℕ) (r : Served) → m .cycles < CYCLES-END → r .full ≡ true → servedTurn l q o before cost r ≡ M.turn before → M.stopped 6 0 before ≡ M.step before
   unfolding M.step M.settle M.reached
   full-step cost r c h e =
-      sym (limit-in before (M.stopped 6 0 before) c)
+      sym (limit-below before (M.stopped 6 0 before) c)
       ∙ ap (λ (b : Bool). M.limit before (M.settle (cond b (M.stops 6 0 before) (concluded l q o (r .e) cost (m .cycles))))) (sym h)
       ∙ ap (λ (t : M.Turn). M.limit before (M.settle t)) e
 
@@ -143,9 +138,9 @@ module _ (l : List ℤ) (q o : List ℕ) (m : State) where
       let n : m .cycles + cost < NEAR = ltb-true _ _ (p .1) in
       let after : Machine = machineAt (overlay (d .p .at) (d .p .v) l) q o (record { s = d .p .s; cycles = m .cycles + cost; k = m .k }) in
       let z : (interruptEnable (d .p .s) && m .k .marks .pending) ≡ false = ap (λ (b : Bool). interruptEnable (d .p .s) && b) (p .0) ∙ and-false (interruptEnable (d .p .s)) in
-      sym (limit-in before (M.completed after) (omega arith))
-      ∙ ap (λ (b : Bool). M.limit before (M.settle (cond b (M.enters HARDWARE-INTERRUPT (machine (after .core) (after .cycles) (with-marks (with-pending false (m .k .marks)) (after .console)))) (M.completes after)))) (sym z)
-      ∙ ap (λ (b : Bool). M.limit before (M.settle (M.conclude cost (m .cycles) (consoleOf (m .k) q o) (result tt b (d .error) (core (overlay (d .p .at) (d .p .v) l) (d .p .s)))))) (sym h)
+      sym (limit-below before (M.completed after) (omega arith))
+      ∙ ap (λ (b : Bool). M.limit before (M.settle (cond b (M.enters HARDWARE-INTERRUPT (with-mark false after)) (M.completes after)))) (sym z)
+      ∙ ap (λ (b : Bool). M.limit before (M.settle (M.conclude cost (performedAt l q o (keptMade d (m .k)) (m .cycles)) (result tt b (d .error) (core (overlay (d .p .at) (d .p .v) l) (d .p .s)))))) (sym h)
       ∙ ap (λ (x : M.Turn). M.limit before (M.settle x)) e
     where
       quiet-parts : (a b : Bool) → (not a && b) ≡ true → (a ≡ false) × (b ≡ true)
@@ -169,8 +164,8 @@ module _ (l : List ℤ) (q o : List ℕ) (m : State) where
       go : (b : Bool) → ltb (m .cycles) NEAR ≡ b → M.limit (machineAt l q o saved) (M.settle (concluded l q o e cost (m .cycles))) ≡ M.limit before (M.settle (concluded l q o e cost (m .cycles)))
       go true h =
           let n : m .cycles < NEAR = ltb-true _ _ h in
-          let z = conclude-soon cost (m .cycles) (consoleOf (e .k) q (sent (e .sends) (e .to) (e .byte) o)) (performedRes l e) in
-          limit-in _ _ (omega arith) ∙ sym (limit-in _ _ (omega arith))
+          let z = conclude-soon cost (performedAt l q o e (m .cycles)) (performedRes l e) in
+          limit-below _ _ (omega arith) ∙ sym (limit-below _ _ (omega arith))
       go false h =
           ap (λ (x : State). M.limit (machineAt l q o x) (M.settle (concluded l q o e cost (m .cycles)))) (k (ltb-false _ _ h))
 
@@ -189,7 +184,7 @@ run-start b m =
     let e : b - 0 ≡ b = omega arith in
     let r = M.run b m in
     let z : 0 + r .steps ≡ r .steps = omega arith in
-    ap (λ (x : ℕ). M.later 0 (M.run x m)) e ∙ (λ i. record { stop = r .stop; detail = r .detail; steps = z i; left = r .left })
+    ap (λ (x : ℕ). M.later 0 (M.run x m)) e ∙ (λ i. runs (r .stop) (r .detail) (z i) (r .left))
 
 pub run-went : (k b : ℕ) (m m' : Machine) (n d : ℕ) → k < b → outcomeAt true n d m' ≡ M.step m → M.later (k + 1) (M.run (b - (k + 1)) m') ≡ M.later k (M.run (b - k) m)
 unfolding M.run M.goOn M.later
@@ -197,22 +192,22 @@ run-went k b m m' n d h e =
     let j : b - k ≡ suc (b - (k + 1)) = omega arith in
     let r : Run = M.run (b - (k + 1)) m' in
     let z : k + 1 + r .steps ≡ k + (1 + r .steps) = omega arith in
-    (λ i. record { stop = r .stop; detail = r .detail; steps = z i; left = r .left })
+    (λ i. runs (r .stop) (r .detail) (z i) (r .left))
     ∙ ap (λ (o : M.Outcome). M.later k (M.goOn o (M.run (b - (k + 1))))) e
     ∙ sym (ap (λ (x : ℕ). M.later k (M.run x m)) j)
 
-pub run-ended : (k b : ℕ) (m m' : Machine) (n d : ℕ) → k < b → outcomeAt false n d m' ≡ M.step m → record { stop = n; detail = d; steps = k; left = m' } ≡ M.later k (M.run (b - k) m)
+pub run-ended : (k b : ℕ) (m m' : Machine) (n d : ℕ) → k < b → outcomeAt false n d m' ≡ M.step m → runs n d k m' ≡ M.later k (M.run (b - k) m)
 unfolding M.run M.goOn M.later
 run-ended k b m m' n d h e =
     let j : b - k ≡ suc (b - (k + 1)) = omega arith in
     let z : k ≡ k + 0 = omega arith in
-    (λ i. record { stop = n; detail = d; steps = z i; left = m' })
+    (λ i. runs n d (z i) m')
     ∙ ap (λ (o : M.Outcome). M.later k (M.goOn o (M.run (b - (k + 1))))) e
     ∙ sym (ap (λ (x : ℕ). M.later k (M.run x m)) j)
 
-pub run-spent : (k b : ℕ) (m : Machine) → b ≤ k → record { stop = 0; detail = 0; steps = k; left = m } ≡ M.later k (M.run (b - k) m)
+pub run-spent : (k b : ℕ) (m : Machine) → b ≤ k → runs 0 0 k m ≡ M.later k (M.run (b - k) m)
 unfolding M.run M.later
 run-spent k b m h =
     let j : b - k ≡ 0 = omega arith in
     let z : k ≡ k + 0 = omega arith in
-    (λ i. record { stop = 0; detail = 0; steps = z i; left = m }) ∙ sym (ap (λ (x : ℕ). M.later k (M.run x m)) j)
+    (λ i. runs 0 0 (z i) m) ∙ sym (ap (λ (x : ℕ). M.later k (M.run x m)) j)

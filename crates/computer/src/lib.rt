@@ -1,7 +1,6 @@
 // Computer::step and Computer::run of mod.rs, over lent cells, queue and output record.
 use console::ConsoleState;
 use definition::Registers;
-use encoding::costs::COSTS;
 use runtime::State;
 use runtime::arrive::Performed;
 ghost use mathlib.Core.Path.{_≡_};
@@ -11,10 +10,12 @@ ghost use Prim.Native.Nat.{ℕ, _<_, _≤_, _^_};
 ghost use lib.ListN.{length};
 ghost use Rattle.definition.specs.Memory.{cellCount};
 ghost use Rattle.definition.specs.Runtime.{limit, settle, step, run};
-ghost use Rattle.definition.proofs.Row.{AcceptedMachine};
-ghost use Rattle.encoding.specs.Table.{costTable};
+ghost use Rattle.definition.specs.Accepted.{AcceptedMachine};
 ghost use Rattle.runtime.specs.Meaning.{machineAt, outcomeAt, concluded};
 ghost use Rattle.computer.specs.Meaning.{NEAR, quiet, endedOf};
+
+// "0 budget spent"
+const BUDGET_SPENT: u32 = 0;
 
 // Where a step got: completed, or a stop with its detail.
 pub struct Stepped {
@@ -101,16 +102,15 @@ pub fn step(
     cells: &mut [i64],
     queue: &[u8],
     output: &mut [u8],
-    costs: &[u8; 1188],
     saved: State,
     m: State,
 ) -> Stepped
-    requires { do ⌜ AcceptedMachine (machineAt (now cells) (now queue) (now output) m) ⌝; ⌜ now costs ≡ costTable ⌝; ⌜ (NEAR ≤ m .cycles → saved ≡ m) ⌝ }
+    requires { do ⌜ AcceptedMachine (machineAt (now cells) (now queue) (now output) m) ⌝; ⌜ (NEAR ≤ m .cycles → saved ≡ m) ⌝ }
     ensures { λ r. ⌜ outcomeAt (r .completed) (r .stop) (r .detail) (machineAt (now (cells .exit)) (now (queue .entry)) (now (output .exit)) (r .m)) ≡ step (machineAt (now (cells .entry)) (now (queue .entry)) (now (output .entry)) m) ⌝ }
 {
     let s = m.s;
     let k = m.k;
-    let f = runtime::fetch::fetch(cells, costs, s);
+    let f = runtime::fetch::fetch(cells, s);
     let t = f.s;
     let i = f.i;
     let error = f.error;
@@ -131,7 +131,7 @@ pub fn step(
             let p = d.p;
             let u = p.s;
             if d.ok {
-                if p.at == 4294967295 {
+                if p.at == memory::NO_CELL {
                     if is_quiet(k, n) {
                         return completes(u, n, k);
                     }
@@ -154,12 +154,11 @@ pub fn run(cells: &mut [i64], queue: &[u8], output: &mut [u8], m: State, budget:
     requires { do ⌜ AcceptedMachine (machineAt (now cells) (now queue) (now output) m) ⌝ }
     ensures { λ r. ⌜ endedOf (now (cells .exit)) (now (queue .entry)) (now (output .exit)) r ≡ run budget (machineAt (now (cells .entry)) (now (queue .entry)) (now (output .entry)) m) ⌝ }
 {
-    let costs = &COSTS;
     let mut saved = m;
     let mut t = m;
     let mut steps: u32 = 0;
     while steps < budget {
-        let u = step(cells, queue, output, costs, saved, t);
+        let u = step(cells, queue, output, saved, t);
         t = u.m;
         if u.completed {
             if 0x4000_0000_0000_0000 <= t.cycles {
@@ -176,7 +175,7 @@ pub fn run(cells: &mut [i64], queue: &[u8], output: &mut [u8], m: State, budget:
         }
     }
     Ended {
-        stop: 0,
+        stop: BUDGET_SPENT,
         detail: 0,
         steps,
         m: t,

@@ -5,7 +5,7 @@ ghost use mathlib.Core.List.{List};
 ghost use Prim.Native.Nat.{ℕ, _+_, _<_, _≤_};
 ghost use lib.ListN.{length, set};
 ghost use Rattle.definition.specs.Io.{around, readPort, readData, writePort, outputFull, putBytes, drained};
-ghost use Rattle.console.specs.State.{consoleOf, Sends};
+ghost use Rattle.console.specs.Meaning.{consoleOf, Sends};
 
 // The console without its bytes.
 pub struct ConsoleState {

@@ -1,12 +1,11 @@
 -- A run of an accepted machine leaves an accepted machine, in either mode; its steps, its stop, and budgets that pass through one another.
 use mathlib.Core.Path.{_≡_, refl, sym, ap, _∙_, subst}
 use mathlib.Core.Logic.{_≢_}
-use mathlib.Core.Bool.{Bool, true, false, cond, true≢false, _&&_}
-use mathlib.Core.List.{List, [], _∷_}
+use mathlib.Core.Bool.{Bool, true, false, cond, _&&_}
 use Prim.Native.Nat.{ℕ, zero, suc, _+_, _-_, _<_, _≤_}
 use native.Mathlib.Omega.{arith}
 use lib.IntN.{ℤ, pos}
-use lib.ListN.{length, getD, set, length-set}
+use lib.ListN.{length, getD, length-set}
 use lib.Dec.{ltb, leb, eqb}
 use borrow.Author.Tests.{ltb-true, ltb-false, leb-false}
 use Rattle.definition.specs.declared.Marks.{Marks}
@@ -14,24 +13,26 @@ use Rattle.definition.specs.declared.Error.{Error}
 use Rattle.definition.specs.declared.Error.the-variants.{DivByZero, InvalidInstruction, PrivilegedInstruction, Trap, InvalidMemoryAccess, CellError, Extract, InvalidPc, InvalidSp, InvalidSr, Reset}
 use Rattle.definition.specs.declared.Ran.{Ran}
 use Rattle.definition.specs.Constants.{CYCLES-END}
-use Rattle.definition.specs.Exception.{Ending, exception, stop, ending, HARDWARE-INTERRUPT, NO-HANDLER, OUTPUT-FULL, CYCLES-FULL}
+use Rattle.definition.specs.Exception.{stop, ending, HARDWARE-INTERRUPT, NO-HANDLER, OUTPUT-FULL, CYCLES-FULL}
 use Rattle.definition.specs.Memory.{word}
-use Rattle.definition.specs.Registers.{Reg, interruptEnable}
-use Rattle.definition.specs.Io.{Console, with-marks, with-pending, inputReady, status, readStatus, writeControl, around, readData, readPort, writeData, writePort, outputFull}
-use Rattle.definition.specs.Computer.{Core, Res, ok, err}
+use Rattle.definition.specs.Registers.{interruptEnable}
+use Rattle.definition.specs.Io.{Console, with-marks, inputReady, status, readStatus, writeControl, around, readData, readPort, writeData, writePort, outputFull}
+use Rattle.definition.specs.Exec.{Core, Res, ok, err}
 use Rattle.definition.specs.Instructions.{Request, nothing, reads, writes, setRegister}
-use Rattle.definition.specs.Runtime.{Machine, machine, Executed, attempt, Turn, completes, enters, stops, ends, poll, conclude, serve, afterAttempt, turn, Outcome, completed, stopped, hasHandler, entered, recover, settle, reached, limit, step, Run, later, goOn, run}
+use Rattle.definition.specs.Runtime.{Machine, with-core, with-cycles, with-console, with-mark, Executed, attempt, Turn, completes, enters, stops, ends, poll, conclude, serve, afterAttempt, turn, Outcome, completed, stopped, hasHandler, entered, recover, settle, reached, limit, step, Run, runs, later, goOn, run}
 use Rattle.definition.specs.Calls.{Lent, lentMachine, lentOf, Called, passes, runCheck, ran, runRefused, runCall}
 use Rattle.definition.specs.UserMode.{Accepted}
-use Rattle.definition.specs.Accepted.{laterCall, RunLaws, RunsAccepted}
+use Rattle.definition.specs.Accepted.{Sound, AcceptedCore, ConsoleIn, AcceptedMachine, laterCall, RunsAccepted}
+-- Not cited: the table is proved first, so that a wrong rule is refused at a row that shows it.
+use Rattle.definition.proofs.Course.{course}
 use Rattle.definition.proofs.Keeps.{Good, k-set, attempt-keeps}
-use Rattle.definition.proofs.AcceptedCore.{AcceptedCore, Sound, any-laws, word-sound}
+use Rattle.definition.proofs.AcceptedCore.{any-laws, word-sound}
 use Rattle.definition.proofs.UserStep.{entered-accepted}
-use Rattle.definition.proofs.Row.{ConsoleIn, AcceptedMachine, machine-back, accepted-machine, machine-accepted}
+use Rattle.definition.proofs.Row.{machine-back, accepted-machine, machine-accepted}
 
 -- ---- the console
 
-marks-in : (k : Console) (x : Marks) → ConsoleIn k → ConsoleIn (with-marks x k)
+pub marks-in : (k : Console) (x : Marks) → ConsoleIn k → ConsoleIn (with-marks x k)
 marks-in k x h =
     record { some = h .some; few = h .few; small = h .small; start-in = h .start-in; count-in = h .count-in; written-in = h .written-in }
 
@@ -91,6 +92,16 @@ abbrev pub OutcomeHas : (Machine → Type 0) → Outcome → Type 0
 OutcomeHas P (completed m) = P m
 OutcomeHas P (stopped n d m) = (1 ≤ n) × P m
 
+-- one part changed
+both-core : (m : Machine) (c : Core) → Both m → AcceptedCore c → Both (with-core c m)
+both-core m c b f = record { core-in = f; console-in = b .console-in }
+
+both-cycles : (m : Machine) (n : ℕ) → Both m → Both (with-cycles n m)
+both-cycles m n b = record { core-in = b .core-in; console-in = b .console-in }
+
+both-console : (m : Machine) (k : Console) → Both m → ConsoleIn k → Both (with-console k m)
+both-console m k b h = record { core-in = b .core-in; console-in = h }
+
 ends-in : (e : Error) (m : Machine) → Both m → TurnHas Both (ends (ending e) m)
 unfolding ends ending
 ends-in DivByZero m b = b
@@ -109,34 +120,34 @@ poll-in : (m : Machine) → Both m → TurnHas Both (poll m)
 unfolding poll
 poll-in m b = go (interruptEnable (m .core .regs) && m .console .marks .pending)
   where
-    go : (t : Bool) → TurnHas Both (cond t (enters HARDWARE-INTERRUPT (machine (m .core) (m .cycles) (with-marks (with-pending false (m .console .marks)) (m .console)))) (completes m))
-    go true = record { core-in = b .core-in; console-in = marks-in (m .console) _ (b .console-in) }
+    go : (t : Bool) → TurnHas Both (cond t (enters HARDWARE-INTERRUPT (with-mark false m)) (completes m))
+    go true = both-console m _ b (marks-in (m .console) _ (b .console-in))
     go false = b
 
 abbrev GoodAny : {X : Type 0} → Res X → Type 0
 GoodAny {X} r = Good AcceptedCore Sound (Unit {0}) (λ (q : Request). Unit {0}) any-laws (λ (x : X). Unit {0}) r
 
-conclude-in : (cost n : ℕ) (k : Console) (r : Res (Unit {0})) → ConsoleIn k → GoodAny r → TurnHas Both (conclude cost n k r)
+conclude-in : (cost : ℕ) (m : Machine) (r : Res (Unit {0})) → Both m → GoodAny r → TurnHas Both (conclude cost m r)
 unfolding conclude
-conclude-in cost n k (ok u c) h g = poll-in (machine c (n + cost) k) (record { core-in = g .1; console-in = h })
-conclude-in cost n k (err e c) h g = ends-in e (machine c n k) (record { core-in = g; console-in = h })
+conclude-in cost m (ok u c) b g = poll-in (with-cycles (m .cycles + cost) (with-core c m)) (both-cycles (with-core c m) _ (both-core m c b (g .1)))
+conclude-in cost m (err e c) b g = ends-in e (with-core c m) (both-core m c b g)
 
 serve-in : (m : Machine) (q : Request) (cost : ℕ) (c : Core) → Both m → AcceptedCore c → TurnHas Both (serve m q cost c)
 unfolding serve
-serve-in m nothing cost c b f = conclude-in cost (m .cycles) (m .console) (ok tt c) (b .console-in) (tt, f)
+serve-in m nothing cost c b f = conclude-in cost m (ok tt c) b (tt, f)
 serve-in m (reads p r) cost c b f =
-    conclude-in cost (m .cycles) (readPort p (m .console) .1) (setRegister r (word (pos (readPort p (m .console) .0))) c) (read-in p (m .console) (b .console-in)) (k-set AcceptedCore Sound (Unit {0}) (λ (q : Request). Unit {0}) any-laws r _ (word-sound _) .at c f)
+    conclude-in cost (with-console (readPort p (m .console) .1) m) (setRegister r (word (pos (readPort p (m .console) .0))) c) (both-console m _ b (read-in p (m .console) (b .console-in))) (k-set AcceptedCore Sound (Unit {0}) (λ (q : Request). Unit {0}) any-laws r _ (word-sound _) .at c f)
 serve-in m (writes p w) cost c b f = go (outputFull p (m .console)) refl
   where
-    go : (t : Bool) → outputFull p (m .console) ≡ t → TurnHas Both (cond t (stops OUTPUT-FULL 0 m) (conclude cost (m .cycles) (writePort p w (m .console)) (ok tt c)))
+    go : (t : Bool) → outputFull p (m .console) ≡ t → TurnHas Both (cond t (stops OUTPUT-FULL 0 m) (conclude cost (with-console (writePort p w (m .console)) m) (ok tt c)))
     go true e = (omega arith, b)
     go false e =
-        conclude-in cost (m .cycles) (writePort p w (m .console)) (ok tt c) (write-in p w (m .console) (b .console-in) e) (tt, f)
+        conclude-in cost (with-console (writePort p w (m .console)) m) (ok tt c) (both-console m _ b (write-in p w (m .console) (b .console-in) e)) (tt, f)
 
 after-in : (m : Machine) (r : Res Executed) → Both m → GoodAny r → TurnHas Both (afterAttempt m r)
 unfolding afterAttempt
 after-in m (ok x c) b g = serve-in m (x .request) (x .cost) c b (g .1)
-after-in m (err e c) b g = ends-in e (machine c (m .cycles) (m .console)) (record { core-in = g; console-in = b .console-in })
+after-in m (err e c) b g = ends-in e (with-core c m) (both-core m c b g)
 
 settle-in : (t : Turn) → TurnHas Both t → OutcomeHas Both (settle t)
 unfolding settle recover entered
@@ -144,21 +155,24 @@ settle-in (completes m) b = b
 settle-in (enters k m) b = go (hasHandler (m .core .cells))
   where
     go : (t : Bool) → OutcomeHas Both (cond t (completed (entered k m)) (stopped NO-HANDLER k m))
-    go true = record { core-in = entered-accepted k (m .core) (b .core-in); console-in = b .console-in }
+    go true = both-cycles (with-core _ m) _ (both-core m _ b (entered-accepted k (m .core) (b .core-in)))
     go false = (omega arith, b)
 settle-in (stops n d m) b = b
+
+with-limit : (m : Machine) → Both m → m .cycles < CYCLES-END → AcceptedMachine m
+with-limit m b h = record { core-in = b .core-in; cycles-in = h; console-in = b .console-in }
 
 limit-in : (m : Machine) → AcceptedMachine m → (o : Outcome) → OutcomeHas Both o → OutcomeHas AcceptedMachine (limit m o)
 unfolding limit reached
 limit-in m a (completed m') h = go (ltb (m' .cycles) CYCLES-END) refl
   where
     go : (b : Bool) → ltb (m' .cycles) CYCLES-END ≡ b → OutcomeHas AcceptedMachine (cond b (completed m') (stopped CYCLES-FULL 0 m))
-    go true e = record { core-in = h .core-in; cycles-in = ltb-true _ _ e; console-in = h .console-in }
+    go true e = with-limit m' h (ltb-true _ _ e)
     go false e = (omega arith, a)
 limit-in m a (stopped n d m') h = go (ltb (m' .cycles) CYCLES-END) refl
   where
     go : (b : Bool) → ltb (m' .cycles) CYCLES-END ≡ b → OutcomeHas AcceptedMachine (cond b (stopped n d m') (stopped CYCLES-FULL 0 m))
-    go true e = (h .0, record { core-in = h .1 .core-in; cycles-in = ltb-true _ _ e; console-in = h .1 .console-in })
+    go true e = (h .0, with-limit m' (h .1) (ltb-true _ _ e))
     go false e = (omega arith, a)
 
 pub step-accepted : (m : Machine) → AcceptedMachine m → OutcomeHas AcceptedMachine (step m)
@@ -190,12 +204,12 @@ run-ends (suc n) m a = go-on-ends n (step m) (run n) (step-accepted m a) (λ m' 
 
 later-zero : (r : Run) → later 0 r ≡ r
 unfolding later
-later-zero r = let e : 0 + r .steps ≡ r .steps = omega arith in λ i. record { stop = r .stop; detail = r .detail; steps = e i; left = r .left }
+later-zero r = let e : 0 + r .steps ≡ r .steps = omega arith in λ i. runs (r .stop) (r .detail) (e i) (r .left)
 
 later-suc : (n : ℕ) (r : Run) → later 1 (later n r) ≡ later (suc n) r
 unfolding later
 later-suc n r =
-    let e : 1 + (n + r .steps) ≡ suc n + r .steps = omega arith in λ i. record { stop = r .stop; detail = r .detail; steps = e i; left = r .left }
+    let e : 1 + (n + r .steps) ≡ suc n + r .steps = omega arith in λ i. runs (r .stop) (r .detail) (e i) (r .left)
 
 later-stop : (n : ℕ) (r : Run) → later n r .stop ≡ r .stop
 unfolding later

@@ -1,73 +1,24 @@
 -- What acceptance says of cells and registers, and that every instruction keeps it: the two instances of Keeps.
 use mathlib.Core.Path.{_≡_, refl, sym, ap, _∙_}
-use mathlib.Core.Logic.{_≢_}
-use mathlib.Core.Bool.{Bool, true, false, true≢false}
+use mathlib.Core.Bool.{true, false, true≢false}
 use mathlib.Core.List.{List}
-use Prim.Native.Nat.{ℕ, _+_, _*_, _/_, _<_, _≤_}
+use Prim.Native.Nat.{ℕ, _*_, _<_}
 use native.Mathlib.Omega.{arith}
 use native.Mathlib.Decide.{ℕ-discrete}
-use lib.IntN.{ℤ, pos}
-use lib.ListN.{length, getD, set, length-set}
-use lib.Seq.{getD-set-same, getD-set-other}
+use lib.IntN.{ℤ}
 use Rattle.definition.specs.declared.Cell.{Cell}
 use Rattle.definition.specs.declared.Registers.{Registers}
-use Rattle.definition.specs.Memory.{cell, word, cellCount, cellAt, putCell}
+use Rattle.definition.specs.Memory.{word, cellCount, cellAt, putCell}
 use Rattle.definition.specs.Registers.{supervisor}
 use Rattle.definition.specs.Encoding.{sound, soundAt}
-use Rattle.definition.specs.Computer.{Core, core}
+use Rattle.definition.specs.Exec.{Core, with-regs, with-cells}
 use Rattle.definition.specs.Instructions.{Request, nothing}
 use Rattle.definition.proofs.Bits.{put-other}
-use Rattle.definition.proofs.Keeps.{Laws, Addr}
-
--- ---- a cell put
-
-pub length-put : (l : List ℤ) (n : ℕ) (v : Cell) → length (putCell l n v) ≡ length l
-unfolding putCell
-length-put l n v = simp length-set
-
-pub count-put : (l : List ℤ) (n : ℕ) (v : Cell) → cellCount (putCell l n v) ≡ cellCount l
-count-put l n v = ap (λ x. x / 3) (length-put l n v)
-
-get-other : (l : List ℤ) (n m : ℕ) (v : Cell) → m ≢ 3 * n → m ≢ 3 * n + 1 → m ≢ 3 * n + 2 → getD (putCell l n v) m (pos 0) ≡ getD l m (pos 0)
-unfolding putCell
-get-other l n m v h₀ h₁ h₂ = simp getD-set-other
-
-abbrev pub cell-path : {a b c a' b' c' : ℤ} → a ≡ a' → b ≡ b' → c ≡ c' → cell a b c ≡ cell a' b' c'
-cell-path p q r = λ i. cell (p i) (q i) (r i)
-
-pub cell-other : (l : List ℤ) (n k : ℕ) (v : Cell) → k ≢ n → cellAt (putCell l n v) k ≡ cellAt l k
-unfolding cellAt
-cell-other l n k v h =
-    cell-path (get-other l n (3 * k) v (omega arith) (omega arith) (omega arith)) (get-other l n (3 * k + 1) v (omega arith) (omega arith) (omega arith)) (get-other l n (3 * k + 2) v (omega arith) (omega arith) (omega arith))
-
-pub cell-same : (l : List ℤ) (n : ℕ) (v : Cell) → n < cellCount l → cellAt (putCell l n v) n ≡ v
-unfolding cellAt putCell
-cell-same l n v h =
-    let l₀ : 3 * n < length l = omega arith in
-    let l₁ : 3 * n + 1 < length (set l (3 * n) (v .tag)) = simp length-set (omega arith) in
-    let l₂ : 3 * n + 2 < length (set (set l (3 * n) (v .tag)) (3 * n + 1) (v .first)) = simp length-set (omega arith) in
-    let d₀₁ : 3 * n ≢ 3 * n + 1 = omega arith in
-    let d₀₂ : 3 * n ≢ 3 * n + 2 = omega arith in
-    let d₁₂ : 3 * n + 1 ≢ 3 * n + 2 = omega arith in
-    cell-path
-    (simp (getD-set-other, getD-set-same))
-    (simp (getD-set-other, getD-set-same))
-    (simp getD-set-same)
+use Rattle.definition.specs.Accepted.{Addr, Sound, AcceptedCore}
+use Rattle.definition.proofs.Cells.{length-put, count-put, cell-other, cell-same}
+use Rattle.definition.proofs.Keeps.{Laws}
 
 -- ---- an accepted core
-
-abbrev pub Sound : Cell → Type 0
-Sound v = sound v ≡ true
-
-pub record AcceptedCore (c : Core) : Type 0 where
-  pub three : length (c .cells) ≡ 3 * cellCount (c .cells)
-  pub low : 256 ≤ cellCount (c .cells)
-  pub high : cellCount (c .cells) ≤ 10000
-  pub pcA : Addr (c .regs .pc)
-  pub spA : Addr (c .regs .sp)
-  pub aS : Sound (c .regs .a)
-  pub bS : Sound (c .regs .b)
-  pub cellsS : (n : ℕ) → n < cellCount (c .cells) → Sound (cellAt (c .cells) n)
 
 pub word-sound : (w : ℤ) → Sound (word w)
 unfolding sound soundAt
@@ -80,7 +31,7 @@ put-sound l k v hk s h n hn = go (ℕ-discrete n k)
     go (yes e) = ap sound (ap (cellAt (putCell l k v)) e ∙ cell-same l k v hk) ∙ s
     go (no e) = ap sound (cell-other l k n v e) ∙ h n (rw (count-put l k v) at hn)
 
-pub accepted-put : (c : Core) → AcceptedCore c → (n : ℕ) → n < cellCount (c .cells) → (v : Cell) → Sound v → AcceptedCore (core (putCell (c .cells) n v) (c .regs))
+pub accepted-put : (c : Core) → AcceptedCore c → (n : ℕ) → n < cellCount (c .cells) → (v : Cell) → Sound v → AcceptedCore (with-cells (putCell (c .cells) n v) c)
 accepted-put c f n h v s =
     record {
       three = length-put (c .cells) n v ∙ f .three ∙ ap (λ x. 3 * x) (sym (count-put (c .cells) n v));
@@ -94,7 +45,7 @@ accepted-put c f n h v s =
     }
 
 -- the cells of one accepted core, and other registers
-pub with-registers : (c : Core) (s : Registers) → AcceptedCore c → Addr (s .pc) → Addr (s .sp) → Sound (s .a) → Sound (s .b) → AcceptedCore (core (c .cells) s)
+pub with-registers : (c : Core) (s : Registers) → AcceptedCore c → Addr (s .pc) → Addr (s .sp) → Sound (s .a) → Sound (s .b) → AcceptedCore (with-regs s c)
 with-registers c s f p q a b =
     record { three = f .three; low = f .low; high = f .high; pcA = p; spA = q; aS = a; bS = b; cellsS = f .cellsS }
 

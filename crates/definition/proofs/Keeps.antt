@@ -1,8 +1,7 @@
 -- One walk over all 33 instructions, for any invariant of cells and registers: what holds before `attempt` holds after it.
 use mathlib.Core.Path.{_≡_, refl, sym, subst}
-use mathlib.Core.Bool.{Bool, true, false, not, cond, _&&_, _||_}
-use mathlib.Core.List.{List}
-use Prim.Native.Nat.{ℕ, zero, suc, _+_, _-_, _<_, _≤_}
+use mathlib.Core.Bool.{Bool, true, false, cond}
+use Prim.Native.Nat.{ℕ, zero, suc, _-_, _<_, _≤_}
 use native.Mathlib.Omega.{arith}
 use lib.IntN.{ℤ, pos, negsuc, natAbs}
 use lib.Dec.{T, ltb, leb, ltb→lt, leb→le}
@@ -20,19 +19,17 @@ use Rattle.definition.specs.declared.Found.the-variants.{Here, Outside}
 use Rattle.definition.specs.declared.Error.{Error}
 use Rattle.definition.specs.declared.Error.the-variants.{InvalidInstruction, InvalidMemoryAccess, CellError, Extract}
 use Rattle.definition.specs.Constants.{ZERO, NEGATIVE, OVERFLOW}
-use Rattle.definition.specs.Word.{addressOf, wrapped, isShift}
+use Rattle.definition.specs.Word.{addressOf, isShift}
 use Rattle.definition.specs.Memory.{word, extractWord, asAddress, extractAddress, cellCount, cellAt, putCell, found, get}
 use Rattle.definition.specs.Registers as R
 use Rattle.definition.specs.Registers.{Reg, getReg, Put, assigned, refused, putReg, putPc, putSp, putSr, putFlag, supervisor, with-a, with-b, with-pc, with-sp, with-sr}
 use Rattle.definition.specs.Arguments.{Operand, none, imm, reg, dir, ind, idx, indexed, resolve, cellThere, extractCell, operandWord}
 use Rattle.definition.specs.Encoding as E
-use Rattle.definition.specs.Encoding.{Op, Instruction, Extracted, instruction, noInstruction, extractInstruction}
-use Rattle.definition.specs.Computer.{Core, core, Exec, Res, ok, err, andThen, _>>=_, _>>_, return, raise, branch, ask, change, orWord, orAddress, orCell, orPut, assign, read, write, checkPrivileged, below, push, pop}
+use Rattle.definition.specs.Encoding.{Op, Extracted, instruction, noInstruction}
+use Rattle.definition.specs.Exec.{Core, with-regs, with-cells, Exec, Res, ok, err, andThen, _>>=_, _>>_, return, raise, branch, ask, change, orWord, orAddress, orCell, orPut, assign, read, write, checkPrivileged, below, push, pop}
 use Rattle.definition.specs.Instructions.{cellOf, wordOf, targetOf, registerWord, placeOf, setRegister, andFlags, signFlags, putResult, putWrapped, putCompared, putQuotient, putShifted, words, neg, notOp, jump, jumpIf, call, rtn, popOp, pushOp, ld, st, fas, swapBack, swap, rti, reset, Request, nothing, quiet, inOp, outOp, execute}
 use Rattle.definition.specs.Runtime.{orInstruction, fetch, Executed, attempt}
-
-abbrev pub Addr : ℕ → Type 0
-Addr n = n < 4294967296
+use Rattle.definition.specs.Accepted.{Addr}
 
 abbrev pub Any : {X : Type 0} → X → Type 0
 Any v = Unit {0}
@@ -49,13 +46,13 @@ pub record Laws (I : Core → Type 0) (Sd : Cell → Type 0) (Loud : Type 0) (Q 
   pub pcA : (c : Core) → I c → Addr (c .regs .pc)
   pub spA : (c : Core) → I c → Addr (c .regs .sp)
   pub few : (c : Core) → I c → cellCount (c .cells) ≤ 10000
-  pub put : (c : Core) → I c → (n : ℕ) → n < cellCount (c .cells) → (v : Cell) → Sd v → I (core (putCell (c .cells) n v) (c .regs))
-  pub to-a : (c : Core) → I c → (v : Cell) → Sd v → I (core (c .cells) (with-a v (c .regs)))
-  pub to-b : (c : Core) → I c → (v : Cell) → Sd v → I (core (c .cells) (with-b v (c .regs)))
-  pub to-pc : (c : Core) → I c → (n : ℕ) → Addr n → I (core (c .cells) (with-pc n (c .regs)))
-  pub to-sp : (c : Core) → I c → (n : ℕ) → Addr n → I (core (c .cells) (with-sp n (c .regs)))
-  pub to-sr : Loud → (c : Core) → I c → (w : ℤ) → I (core (c .cells) (with-sr w (c .regs)))
-  pub to-flag : (c : Core) → I c → (k : ℕ) → k < 8 → (on : Bool) → I (core (c .cells) (putFlag k on (c .regs)))
+  pub put : (c : Core) → I c → (n : ℕ) → n < cellCount (c .cells) → (v : Cell) → Sd v → I (with-cells (putCell (c .cells) n v) c)
+  pub to-a : (c : Core) → I c → (v : Cell) → Sd v → I (with-regs (with-a v (c .regs)) c)
+  pub to-b : (c : Core) → I c → (v : Cell) → Sd v → I (with-regs (with-b v (c .regs)) c)
+  pub to-pc : (c : Core) → I c → (n : ℕ) → Addr n → I (with-regs (with-pc n (c .regs)) c)
+  pub to-sp : (c : Core) → I c → (n : ℕ) → Addr n → I (with-regs (with-sp n (c .regs)) c)
+  pub to-sr : Loud → (c : Core) → I c → (w : ℤ) → I (with-regs (with-sr w (c .regs)) c)
+  pub to-flag : (c : Core) → I c → (k : ℕ) → k < 8 → (on : Bool) → I (with-regs (putFlag k on (c .regs)) c)
 
 -- ---- addresses
 
@@ -132,7 +129,7 @@ module _ (I : Core → Type 0) (Sd : Cell → Type 0) (Loud : Type 0) (Q : Reque
   asks : {X : Type 0} {P : X → Type 0} (f : Registers → X) → ((c : Core) → I c → P (f (c .regs))) → Keeps P (ask f)
   asks f h = record { at = λ c i. (h c i, i) }
 
-  changes : (f : Registers → Registers) → ((c : Core) → I c → I (core (c .cells) (f (c .regs)))) → Keeps Any (change f)
+  changes : (f : Registers → Registers) → ((c : Core) → I c → I (with-regs (f (c .regs)) c)) → Keeps Any (change f)
   changes f h = record { at = λ c i. (tt, h c i) }
 
   good-word : (w : Word) (e : Error) (c : Core) → I c → Good Any (orWord w e c)
@@ -184,41 +181,41 @@ module _ (I : Core → Type 0) (Sd : Cell → Type 0) (Loud : Type 0) (Q : Reque
   reg-in R.SP c i = L .wordS _
   reg-in R.SR c i = L .wordS _
 
-  abbrev Takes : List ℤ → Put → Type 0
-  Takes l (assigned s) = I (core l s)
-  Takes l (refused e) = Unit {0}
+  abbrev Takes : Core → Put → Type 0
+  Takes c (assigned s) = I (with-regs s c)
+  Takes c (refused e) = Unit {0}
 
-  good-put : (p : Put) (c : Core) → Takes (c .cells) p → I c → Good Any (orPut p c)
+  good-put : (p : Put) (c : Core) → Takes c p → I c → Good Any (orPut p c)
   unfolding orPut
   good-put (assigned s) c h i = (tt, h)
   good-put (refused e) c h i = i
 
-  k-assign : (f : Registers → Put) → ((c : Core) → I c → Takes (c .cells) (f (c .regs))) → Keeps Any (assign f)
+  k-assign : (f : Registers → Put) → ((c : Core) → I c → Takes c (f (c .regs))) → Keeps Any (assign f)
   k-assign f h = record { at = λ c i. good-put (f (c .regs)) c (h c i) i }
 
-  takes-pc : (c : Core) → I c → (a : Address) → AddressIn a → Takes (c .cells) (putPc a (c .regs))
+  takes-pc : (c : Core) → I c → (a : Address) → AddressIn a → Takes c (putPc a (c .regs))
   unfolding putPc
   takes-pc c i (At n) h = L .to-pc c i n h
   takes-pc c i NotAddress h = tt
 
-  takes-sp : (c : Core) → I c → (a : Address) → AddressIn a → Takes (c .cells) (putSp a (c .regs))
+  takes-sp : (c : Core) → I c → (a : Address) → AddressIn a → Takes c (putSp a (c .regs))
   unfolding putSp
   takes-sp c i (At n) h = L .to-sp c i n h
   takes-sp c i NotAddress h = tt
 
-  takes-sr : (c : Core) → I c → (b : Bool) → supervisor (c .regs) ≡ b → (w : Word) → Takes (c .cells) (putSr b w (c .regs))
+  takes-sr : (c : Core) → I c → (b : Bool) → supervisor (c .regs) ≡ b → (w : Word) → Takes c (putSr b w (c .regs))
   unfolding putSr
   takes-sr c i true h (Is w) = L .to-sr (L .loud c i h) c i w
   takes-sr c i true h NotWord = tt
   takes-sr c i false h w = tt
 
-  takes : (r : Reg) (v : Cell) → Sd v → (c : Core) → I c → Takes (c .cells) (putReg r v (c .regs))
+  takes : (r : Reg) (v : Cell) → Sd v → (c : Core) → I c → Takes c (putReg r v (c .regs))
   unfolding putReg
   takes R.A v h c i = L .to-a c i v h
   takes R.B v h c i = L .to-b c i v h
   takes R.PC v h c i = takes-pc c i _ (extractAddress-in v)
   takes R.SP v h c i = takes-sp c i _ (extractAddress-in v)
-  takes R.SR v h c i = takes-sr c i (supervisor (c .regs)) refl _
+  takes R.SR v h c i = takes-sr c i _ refl _
 
   pub k-set : (r : Reg) (v : Cell) → Sd v → Keeps Any (setRegister r v)
   k-set r v h = k-assign (putReg r v) (takes r v h)
@@ -230,39 +227,39 @@ module _ (I : Core → Type 0) (Sd : Cell → Type 0) (Loud : Type 0) (Q : Reque
 
   -- ---- results and flags
 
-  takes-flags : (l : List ℤ) (f : Registers → Registers) (p : Put) → ((s : Registers) → I (core l s) → I (core l (f s))) → Takes l p → Takes l (andFlags f p)
+  takes-flags : (c : Core) (f : Registers → Registers) (p : Put) → ((s : Registers) → I (with-regs s c) → I (with-regs (f s) c)) → Takes c p → Takes c (andFlags f p)
   unfolding andFlags
-  takes-flags l f (assigned s) h t = h s t
-  takes-flags l f (refused e) h t = tt
+  takes-flags c f (assigned s) h t = h s t
+  takes-flags c f (refused e) h t = tt
 
-  sign-in : (w : ℤ) (l : List ℤ) (s : Registers) → I (core l s) → I (core l (signFlags w s))
-  sign-in w l s i =
-      L .to-flag (core l (putFlag ZERO _ s)) (L .to-flag (core l s) i ZERO (omega arith) _) NEGATIVE (omega arith) _
+  sign-in : (w : ℤ) (c : Core) (s : Registers) → I (with-regs s c) → I (with-regs (signFlags w s) c)
+  sign-in w c s i =
+      L .to-flag (with-regs (putFlag ZERO _ s) c) (L .to-flag (with-regs s c) i ZERO (omega arith) _) NEGATIVE (omega arith) _
 
-  takes-result : (r : Reg) (w : ℤ) (c : Core) → I c → Takes (c .cells) (putResult r w (c .regs))
+  takes-result : (r : Reg) (w : ℤ) (c : Core) → I c → Takes c (putResult r w (c .regs))
   unfolding putResult
-  takes-result r w c i = takes-flags (c .cells) (signFlags w) _ (sign-in w (c .cells)) (takes r (word w) (L .wordS w) c i)
+  takes-result r w c i = takes-flags c (signFlags w) _ (sign-in w c) (takes r (word w) (L .wordS w) c i)
 
-  takes-wrapped : (r : Reg) (x : Wrapped) (c : Core) → I c → Takes (c .cells) (putWrapped r x (c .regs))
+  takes-wrapped : (r : Reg) (x : Wrapped) (c : Core) → I c → Takes c (putWrapped r x (c .regs))
   unfolding putWrapped
   takes-wrapped r x c i =
-      takes-flags (c .cells) (λ s. signFlags (x .value) (putFlag OVERFLOW (x .overflow) s)) _ (λ s j. sign-in (x .value) (c .cells) _ (L .to-flag (core (c .cells) s) j OVERFLOW (omega arith) _)) (takes r _ (L .wordS _) c i)
+      takes-flags c (λ s. signFlags (x .value) (putFlag OVERFLOW (x .overflow) s)) _ (λ s j. sign-in (x .value) c _ (L .to-flag (with-regs s c) j OVERFLOW (omega arith) _)) (takes r _ (L .wordS _) c i)
 
-  takes-compared : (v w : ℤ) (c : Core) → I c → Takes (c .cells) (putCompared v w (c .regs))
+  takes-compared : (v w : ℤ) (c : Core) → I c → Takes c (putCompared v w (c .regs))
   unfolding putCompared
   takes-compared v w c i =
-      L .to-flag (core (c .cells) (putFlag ZERO _ (c .regs))) (L .to-flag c i ZERO (omega arith) _) NEGATIVE (omega arith) _
+      L .to-flag (with-regs (putFlag ZERO _ (c .regs)) c) (L .to-flag c i ZERO (omega arith) _) NEGATIVE (omega arith) _
 
-  takes-quotient : (r : Reg) (q : Quotient) (c : Core) → I c → Takes (c .cells) (putQuotient r q (c .regs))
+  takes-quotient : (r : Reg) (q : Quotient) (c : Core) → I c → Takes c (putQuotient r q (c .regs))
   unfolding putQuotient
   takes-quotient r (Rounded q) c i = takes-result r q c i
   takes-quotient r NoQuotient c i = tt
 
-  takes-shifted : (f : ℤ → ℕ → ℤ) (r : Reg) (v w : ℤ) (c : Core) → I c → Takes (c .cells) (putShifted f r v w (c .regs))
+  takes-shifted : (f : ℤ → ℕ → ℤ) (r : Reg) (v w : ℤ) (c : Core) → I c → Takes c (putShifted f r v w (c .regs))
   unfolding putShifted
   takes-shifted f r v w c i = go (isShift v)
     where
-      go : (b : Bool) → Takes (c .cells) (cond b (putResult r (f w (natAbs v)) (c .regs)) (refused InvalidInstruction))
+      go : (b : Bool) → Takes c (cond b (putResult r (f w (natAbs v)) (c .regs)) (refused InvalidInstruction))
       go true = takes-result r _ c i
       go false = tt
 
@@ -331,7 +328,7 @@ module _ (I : Core → Type 0) (Sd : Cell → Type 0) (Loud : Type 0) (Q : Reque
   k-jumpIf t x =
       record { at = λ c i. good-branch Any _ (jump x) (return tt) c (λ h. k-jump x .at c i) (λ h. (tt, i)) }
 
-  k-words : (x : Operand) (r : Reg) (f : ℤ → ℤ → Registers → Put) → ((v w : ℤ) (c : Core) → I c → Takes (c .cells) (f v w (c .regs))) → Keeps Any (words x r f)
+  k-words : (x : Operand) (r : Reg) (f : ℤ → ℤ → Registers → Put) → ((v w : ℤ) (c : Core) → I c → Takes c (f v w (c .regs))) → Keeps Any (words x r f)
   unfolding words
   k-words x r f h = seq (k-word x) (λ v p. seq (k-register r) (λ w p. k-assign (f v w) (h v w)))
 

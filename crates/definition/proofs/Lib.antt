@@ -1,8 +1,12 @@
 pub mod Bits
 pub mod Words
+pub mod Encoding
 pub mod Course
+pub mod Cells
+pub mod Verdict
 pub mod Keeps
 pub mod AcceptedCore
+pub mod Step
 pub mod UserStep
 pub mod UserRun
 pub mod Row

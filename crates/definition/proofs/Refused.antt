@@ -2,18 +2,17 @@
 use mathlib.Core.Path.{_≡_, refl}
 use mathlib.Core.Logic.{_≢_}
 use mathlib.Core.Bool.{Bool, true, false, cond}
-use mathlib.Core.List.{List, []}
+use mathlib.Core.List.{List}
 use Prim.Native.Nat.{ℕ}
 use lib.IntN.{ℤ}
-use Rattle.definition.specs.declared.Raised.{Raised}
 use Rattle.definition.specs.Runtime.{Outcome, completed, stopped, run, recover, limit}
-use Rattle.definition.specs.Calls.{Lent, lentMachine, quietMachine, Called, called, passes, freshCheck, fresh, runCheck, ran, runRefused, runCall, deliverCheck, deliver, drainCheck, drain, loadCheck, load, setRegisterCheck, setRegister, raiseCheck, raised, raise}
+use Rattle.definition.specs.Calls.{lentMachine, quietMachine, Called, called, passes, freshCheck, fresh, runCheck, ran, runRefused, runCall, deliverCheck, deliver, drainCheck, drain, loadCheck, load, setRegisterCheck, setRegister, raiseCheck, raiseAnswer, raised, raise}
 use Rattle.definition.specs.Accepted.{RefusedKeeps}
 
 -- a call that is done answers refusal 0, and one that is refused leaves what it was lent
-kept : {A L : Type 0} (refusal : A → ℕ) (b : Bool) (done turned : Called A L) (l : L) → refusal (done .answer) ≡ 0 → turned .left ≡ l → refusal ((cond b done turned) .answer) ≢ 0 → (cond b done turned) .left ≡ l
-kept refusal true done turned l y n h = absurd (h y)
-kept refusal false done turned l y n h = n
+kept : {A L : Type 0} (refusal : A → ℕ) (b : Bool) (done refused : Called A L) (l : L) → refusal (done .answer) ≡ 0 → refused .left ≡ l → refusal ((cond b done refused) .answer) ≢ 0 → (cond b done refused) .left ≡ l
+kept refusal true done refused l y n h = absurd (h y)
+kept refusal false done refused l y n h = n
 
 raised-refusal : (cells row : List ℤ) (o : Outcome) → raised cells row o .answer .refusal ≡ 0
 unfolding raised
@@ -39,6 +38,6 @@ refused-keeps =
       raise-stops = λ cells row code. stops cells row code (passes (raiseCheck cells row code));
     }
   where
-    stops : (cells row : List ℤ) (code : ℕ) (b : Bool) → (cond b (raised cells row (limit (quietMachine cells row) (recover code (quietMachine cells row)))) (called (record { refusal = raiseCheck cells row code .refusal; place = raiseCheck cells row code .place; stop = 0; detail = 0 }) (cells, row))) .answer .stop ≢ 0 → (cond b (raised cells row (limit (quietMachine cells row) (recover code (quietMachine cells row)))) (called (record { refusal = raiseCheck cells row code .refusal; place = raiseCheck cells row code .place; stop = 0; detail = 0 }) (cells, row))) .left ≡ (cells, row)
+    stops : (cells row : List ℤ) (code : ℕ) (b : Bool) → (cond b (raised cells row (limit (quietMachine cells row) (recover code (quietMachine cells row)))) (called (raiseAnswer (raiseCheck cells row code) 0 0) (cells, row))) .answer .stop ≢ 0 → (cond b (raised cells row (limit (quietMachine cells row) (recover code (quietMachine cells row)))) (called (raiseAnswer (raiseCheck cells row code) 0 0) (cells, row))) .left ≡ (cells, row)
     stops cells row code true h = raised-stop cells row _ h
     stops cells row code false h = refl

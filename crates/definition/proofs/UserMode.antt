@@ -1,28 +1,28 @@
 -- Demand 3, proved over lists of calls of run.
 use mathlib.Core.Path.{_≡_, refl, sym, ap, _∙_, subst}
-use mathlib.Core.Bool.{Bool, true, false, true≢false}
-use mathlib.Core.List.{List, [], _∷_, _++_}
-use Prim.Native.Nat.{ℕ, zero, suc, _+_, _<_, _≤_}
+use mathlib.Core.Bool.{true, false, true≢false}
+use mathlib.Core.List.{List, [], _∷_}
+use Prim.Native.Nat.{ℕ, zero, suc, _<_, _≤_}
 use native.Mathlib.Omega.{arith}
-use lib.IntN.{ℤ, pos, natAbs}
+use lib.IntN.{pos, natAbs}
 use Rattle.definition.specs.declared.Cell.{Cell}
-use Rattle.definition.specs.declared.Registers.{Registers}
 use Rattle.definition.specs.declared.Ran.{Ran}
-use Rattle.definition.specs.Constants.{CYCLES-END}
+use Rattle.definition.specs.Constants.{CYCLES-END, ROW-A, ROW-PC, ROW-SR, ROW-PENDING}
 use Rattle.definition.specs.Word.{eqZ}
 use Rattle.definition.specs.Memory.{cell, word, cellAt, isInstruction}
 use Rattle.definition.specs.Registers.{supervisor}
 use Rattle.definition.specs.Io.{Console}
-use Rattle.definition.specs.Computer.{Core, core}
-use Rattle.definition.specs.Runtime.{Machine, turn, hasHandler, enteredSr, enteredRegisters, Run, run}
+use Rattle.definition.specs.Exec.{core}
+use Rattle.definition.specs.Runtime.{Machine, turn, machine, hasHandler, enteredSr, enteredRegisters, enteredCore, Run, runs, run}
 use Rattle.definition.specs.Runtime as M
-use Rattle.definition.specs.Calls.{Lent, lentMachine, lentOf, lentSupervisor, at, mark, cellOfRow, machineOf, rowOf, Called, ran, runCall, calls, answers}
+use Rattle.definition.specs.Calls.{Lent, lentMachine, lentOf, lentSupervisor, at, mark, machineOf, rowOf, Called, ran, runCall, calls, answers}
 use Rattle.definition.specs.UserMode.{Accepted, Alike, SameConsole, GoesNoFurther, Zeros, none, one, Entry, Whole, UserMode}
-use Rattle.definition.proofs.AcceptedCore.{AcceptedCore, User}
-use Rattle.definition.proofs.UserStep.{View, view, viewOf, around, console, turn-is, turnAround, UserTurn, Entered, userEntered, saved-pc, saved-sr, saved-code, saved-handler, entry-sets}
-use Rattle.definition.proofs.UserRun.{UserRun, runAround, userRun, Within, Last, RunEnd, in-user, entered, RunIs, user-run}
-use Rattle.definition.proofs.Row.{ConsoleIn, AcceptedMachine, machine-back, accepted-machine, machine-accepted, row-back}
-use Rattle.definition.proofs.Accepted.{run-ends, call-is, call-on, runs-accepted}
+use Rattle.definition.specs.Accepted.{AcceptedCore, ConsoleIn, AcceptedMachine}
+use Rattle.definition.proofs.AcceptedCore.{User}
+use Rattle.definition.proofs.UserStep.{around, console, turn-is, turnAround, saved-pc, saved-sr, saved-code, saved-handler, entry-sets}
+use Rattle.definition.proofs.UserRun.{runAround, Within, Last, RunEnd, in-user, entered, RunIs, user-run}
+use Rattle.definition.proofs.Row.{machine-back, accepted-machine, machine-accepted, row-back}
+use Rattle.definition.proofs.Accepted.{marks-in, run-ends, call-on, runs-accepted}
 
 -- ---- calls on what a machine is written to
 
@@ -79,9 +79,9 @@ only-zeros (suc n ∷ ns) m a s f =
 
 -- ---- the two machines
 
-around-accepted : (k : Console) (v : View) → ConsoleIn k → AcceptedCore (v .core) → v .cycles < CYCLES-END → AcceptedMachine (around k v)
+around-accepted : (k : Console) (v : Machine) → ConsoleIn k → AcceptedCore (v .core) → v .cycles < CYCLES-END → AcceptedMachine (around k v)
 around-accepted k v h c n =
-    record { core-in = c; cycles-in = n; console-in = record { some = h .some; few = h .few; small = h .small; start-in = h .start-in; count-in = h .count-in; written-in = h .written-in } }
+    record { core-in = c; cycles-in = n; console-in = marks-in k _ h }
 
 entry-on : (n : ℕ) (ns : List ℕ) (l : Lent) → Entry ns (runCall n l .left) → Entry (n ∷ ns) l
 unfolding calls
@@ -112,8 +112,8 @@ entry-on n ns l e =
       taken = e .taken;
     }
 
-around-entered : (k : Console) (n : ℕ) (v : View) → around k (userEntered n v) ≡ M.entered n (around k v)
-unfolding userEntered M.entered
+around-entered : (k : Console) (n : ℕ) (v : Machine) → around k (M.entered n v) ≡ M.entered n (around k v)
+unfolding M.entered
 around-entered k n v = refl
 
 run-steps : (b : ℕ) (m : Machine) → AcceptedMachine m → runCall b (lentOf m) .answer .steps ≡ run b m .steps
@@ -121,21 +121,21 @@ unfolding ran
 run-steps b m a = ap (λ (c : Called Ran Lent). c .answer .steps) (call-on b m a)
 
 -- the run at this place enters, and only budgets of 0 stand behind it
-module _ (k : Console) (v : View) (a : AcceptedMachine (around k v)) (ns : List ℕ) (z : Zeros ns) (b : ℕ) (r : RunIs b v) (l : Last b v) (before-is : run (l .n) (around k v) ≡ runAround k (userRun (l .n) v)) where
+module _ (k : Console) (v : Machine) (a : AcceptedMachine (around k v)) (ns : List ℕ) (z : Zeros ns) (b : ℕ) (r : RunIs b v) (l : Last b v) (before-is : run (l .n) (around k v) ≡ runAround k (run (l .n) v)) where
   final : calls (b ∷ ns) (lentOf (around k v)) ≡ lentOf (M.entered (l .entry .code) (around k (l .entry .moment)))
   unfolding calls
   final =
       ap (calls ns) (call-left b (around k v) a)
       ∙ zeros-calls z (run b (around k v) .left) (run-ends b (around k v) a .left-in)
       ∙ ap (λ (x : Run). lentOf (x .left)) (r .is k)
-      ∙ ap (λ (w : View). lentOf (around k w)) (l .entry .leaves)
+      ∙ ap (λ (w : Machine). lentOf (around k w)) (l .entry .leaves)
       ∙ ap lentOf (around-entered k (l .entry .code) (l .entry .moment))
 
-  last-left : run (l .n) (around k v) ≡ runAround k (record { stop = 0; detail = 0; steps = l .n; left = l .last })
+  last-left : run (l .n) (around k v) ≡ runAround k (runs 0 0 (l .n) (l .last))
   last-left = before-is ∙ ap (runAround k) (l .before)
 
   entry-here : Entry (b ∷ ns) (lentOf (around k v))
-  unfolding calls rowOf M.entered enteredRegisters hasHandler
+  unfolding calls rowOf M.entered enteredCore enteredRegisters hasHandler
   entry-here =
       let e = l .entry in
       let s = e .moment .core .regs in
@@ -157,45 +157,46 @@ module _ (k : Console) (v : View) (a : AcceptedMachine (around k v)) (ns : List 
         moment = around k (e .moment);
         turns = ap turn (machine-back (around k (l .last))) ∙ turn-is k (l .last) (l .user) ∙ ap (turnAround k) (e .turns);
         leaves = ap lentMachine final ∙ machine-back (M.entered (e .code) (around k (e .moment)));
-        pc = ap (λ (x : Lent). at 7 (x .row)) final;
+        pc = ap (λ (x : Lent). at ROW-PC (x .row)) final;
         handler = ap (λ (x : Lent). isInstruction (cellAt (x .cells) 200)) final ∙ ap isInstruction (saved-handler (s .pc) (s .sr) (e .code) c low) ∙ e .handler;
         cell-100 = ap (λ (x : Lent). cellAt (x .cells) 100) final ∙ saved-pc (s .pc) (s .sr) (e .code) c low;
         cell-101 = sr-there;
         clear = e .user .clear;
         cell-102 = ap (λ (x : Lent). cellAt (x .cells) 102) final ∙ saved-code (s .pc) (s .sr) (e .code) c low;
         small = e .small;
-        sr = ap (λ (x : Lent). at 9 (x .row)) final ∙ sym (ap (λ (x : Cell). enteredSr (e .code) (x .first)) sr-there);
-        taken = λ h. ap (λ (x : Lent). at 13 (x .row)) final ∙ ap mark (e .taken h);
+        sr = ap (λ (x : Lent). at ROW-SR (x .row)) final ∙ sym (ap (λ (x : Cell). enteredSr (e .code) (x .first)) sr-there);
+        taken = λ h. ap (λ (x : Lent). at ROW-PENDING (x .row)) final ∙ ap mark (e .taken h);
       }
 
--- ---- the list, from two consoles around one view
+-- ---- the list, from two consoles around one machine
 
-record UserCalls (ns : List ℕ) (v : View) (k₁ k₂ : Console) : Type 0 where
-  after : View
+record UserCalls (ns : List ℕ) (v : Machine) (k₁ k₂ : Console) : Type 0 where
+  after : Machine
   left₁ : calls ns (lentOf (around k₁ v)) ≡ lentOf (around k₁ after)
   left₂ : calls ns (lentOf (around k₂ v)) ≡ lentOf (around k₂ after)
   same : answers ns (lentOf (around k₁ v)) ≡ answers ns (lentOf (around k₂ v))
-  entry : supervisor (after .core .regs) ≡ true → Entry ns (lentOf (around k₁ v))
+  entry₁ : supervisor (after .core .regs) ≡ true → Entry ns (lentOf (around k₁ v))
+  entry₂ : supervisor (after .core .regs) ≡ true → Entry ns (lentOf (around k₂ v))
 
-left-is : (n : ℕ) (v : View) (k : Console) → AcceptedMachine (around k v) → RunIs n v → runCall n (lentOf (around k v)) .left ≡ lentOf (around k (userRun n v .left))
+left-is : (n : ℕ) (v : Machine) (k : Console) → AcceptedMachine (around k v) → RunIs n v → runCall n (lentOf (around k v)) .left ≡ lentOf (around k (run n v .left))
 left-is n v k a r = call-left n (around k v) a ∙ ap (λ (x : Run). lentOf (x .left)) (r .is k)
 
-answer-is : (n : ℕ) (v : View) (k₁ k₂ : Console) → AcceptedMachine (around k₁ v) → AcceptedMachine (around k₂ v) → RunIs n v → runCall n (lentOf (around k₁ v)) .answer ≡ runCall n (lentOf (around k₂ v)) .answer
+answer-is : (n : ℕ) (v : Machine) (k₁ k₂ : Console) → AcceptedMachine (around k₁ v) → AcceptedMachine (around k₂ v) → RunIs n v → runCall n (lentOf (around k₁ v)) .answer ≡ runCall n (lentOf (around k₂ v)) .answer
 unfolding ran
 answer-is n v k₁ k₂ a₁ a₂ r =
     ap (λ (c : Called Ran Lent). c .answer) (call-on n (around k₁ v) a₁ ∙ ap ran (r .is k₁)) ∙ sym (ap (λ (c : Called Ran Lent). c .answer) (call-on n (around k₂ v) a₂ ∙ ap ran (r .is k₂)))
 
-after-accepted : (n : ℕ) (v : View) (k : Console) → AcceptedMachine (around k v) → RunIs n v → AcceptedMachine (around k (userRun n v .left))
+after-accepted : (n : ℕ) (v : Machine) (k : Console) → AcceptedMachine (around k v) → RunIs n v → AcceptedMachine (around k (run n v .left))
 after-accepted n v k a r = subst (λ (x : Run). AcceptedMachine (x .left)) (r .is k) (run-ends n (around k v) a .left-in)
 
 -- one call before the rest
-module _ (n : ℕ) (ns : List ℕ) (v : View) (k₁ k₂ : Console) (a₁ : AcceptedMachine (around k₁ v)) (a₂ : AcceptedMachine (around k₂ v)) (r : RunIs n v) where
-  answers-on : answers ns (lentOf (around k₁ (userRun n v .left))) ≡ answers ns (lentOf (around k₂ (userRun n v .left))) → answers (n ∷ ns) (lentOf (around k₁ v)) ≡ answers (n ∷ ns) (lentOf (around k₂ v))
+module _ (n : ℕ) (ns : List ℕ) (v : Machine) (k₁ k₂ : Console) (a₁ : AcceptedMachine (around k₁ v)) (a₂ : AcceptedMachine (around k₂ v)) (r : RunIs n v) where
+  answers-on : answers ns (lentOf (around k₁ (run n v .left))) ≡ answers ns (lentOf (around k₂ (run n v .left))) → answers (n ∷ ns) (lentOf (around k₁ v)) ≡ answers (n ∷ ns) (lentOf (around k₂ v))
   unfolding answers
   answers-on e =
       λ i. answer-is n v k₁ k₂ a₁ a₂ r i ∷ (ap (answers ns) (left-is n v k₁ a₁ r) ∙ e ∙ sym (ap (answers ns) (left-is n v k₂ a₂ r))) i
 
-  on-user : UserCalls ns (userRun n v .left) k₁ k₂ → UserCalls (n ∷ ns) v k₁ k₂
+  on-user : UserCalls ns (run n v .left) k₁ k₂ → UserCalls (n ∷ ns) v k₁ k₂
   unfolding calls
   on-user c =
       record {
@@ -203,24 +204,26 @@ module _ (n : ℕ) (ns : List ℕ) (v : View) (k₁ k₂ : Console) (a₁ : Acce
         left₁ = ap (calls ns) (left-is n v k₁ a₁ r) ∙ c .left₁;
         left₂ = ap (calls ns) (left-is n v k₂ a₂ r) ∙ c .left₂;
         same = answers-on (c .same);
-        entry = λ s. entry-on n ns (lentOf (around k₁ v)) (subst (Entry ns) (sym (left-is n v k₁ a₁ r)) (c .entry s));
+        entry₁ = λ s. entry-on n ns (lentOf (around k₁ v)) (subst (Entry ns) (sym (left-is n v k₁ a₁ r)) (c .entry₁ s));
+        entry₂ = λ s. entry-on n ns (lentOf (around k₂ v)) (subst (Entry ns) (sym (left-is n v k₂ a₂ r)) (c .entry₂ s));
       }
 
-  on-entry : Zeros ns → (l : Last n v) → run (l .n) (around k₁ v) ≡ runAround k₁ (userRun (l .n) v) → UserCalls (n ∷ ns) v k₁ k₂
+  on-entry : Zeros ns → (l : Last n v) → ((k : Console) → run (l .n) (around k v) ≡ runAround k (run (l .n) v)) → UserCalls (n ∷ ns) v k₁ k₂
   unfolding calls
   on-entry z l h =
       let b₁ = after-accepted n v k₁ a₁ r in
       let b₂ = after-accepted n v k₂ a₂ r in
       record {
-        after = userRun n v .left;
-        left₁ = ap (calls ns) (left-is n v k₁ a₁ r) ∙ zeros-calls z (around k₁ (userRun n v .left)) b₁;
-        left₂ = ap (calls ns) (left-is n v k₂ a₂ r) ∙ zeros-calls z (around k₂ (userRun n v .left)) b₂;
-        same = answers-on (zeros-answers z (around k₁ (userRun n v .left)) (around k₂ (userRun n v .left)) b₁ b₂);
-        entry = λ s. entry-here k₁ v a₁ ns z n r l h;
+        after = run n v .left;
+        left₁ = ap (calls ns) (left-is n v k₁ a₁ r) ∙ zeros-calls z (around k₁ (run n v .left)) b₁;
+        left₂ = ap (calls ns) (left-is n v k₂ a₂ r) ∙ zeros-calls z (around k₂ (run n v .left)) b₂;
+        same = answers-on (zeros-answers z (around k₁ (run n v .left)) (around k₂ (run n v .left)) b₁ b₂);
+        entry₁ = λ s. entry-here k₁ v a₁ ns z n r l (h k₁);
+        entry₂ = λ s. entry-here k₂ v a₂ ns z n r l (h k₂);
       }
 
 module _ (k₁ k₂ : Console) (h₁ : ConsoleIn k₁) (h₂ : ConsoleIn k₂) where
-  list-on : (n : ℕ) (ns : List ℕ) (v : View) (u : User (v .core)) (c : v .cycles < CYCLES-END) → GoesNoFurther (n ∷ ns) (lentOf (around k₁ v)) → ((w : View) → User (w .core) → w .cycles < CYCLES-END → GoesNoFurther ns (lentOf (around k₁ w)) → UserCalls ns w k₁ k₂) → UserCalls (n ∷ ns) v k₁ k₂
+  list-on : (n : ℕ) (ns : List ℕ) (v : Machine) (u : User (v .core)) (c : v .cycles < CYCLES-END) → GoesNoFurther (n ∷ ns) (lentOf (around k₁ v)) → ((w : Machine) → User (w .core) → w .cycles < CYCLES-END → GoesNoFurther ns (lentOf (around k₁ w)) → UserCalls ns w k₁ k₂) → UserCalls (n ∷ ns) v k₁ k₂
   list-on n ns v u c f ih = go (r .end)
     where
       a₁ : AcceptedMachine (around k₁ v)
@@ -235,21 +238,22 @@ module _ (k₁ k₂ : Console) (h₁ : ConsoleIn k₁) (h₂ : ConsoleIn k₂) w
       r : RunIs n v
       r = user-run k₁ n v u w
 
-      b₁ : AcceptedMachine (around k₁ (userRun n v .left))
+      b₁ : AcceptedMachine (around k₁ (run n v .left))
       b₁ = after-accepted n v k₁ a₁ r
 
-      g : GoesNoFurther ns (lentOf (around k₁ (userRun n v .left)))
+      g : GoesNoFurther ns (lentOf (around k₁ (run n v .left)))
       g = subst (GoesNoFurther ns) (left-is n v k₁ a₁ r) (rest-of n ns (lentOf (around k₁ v)) f)
 
       go : RunEnd n v → UserCalls (n ∷ ns) v k₁ k₂
-      go (in-user u') = on-user n ns v k₁ k₂ a₁ a₂ r (ih (userRun n v .left) u' (b₁ .cycles-in) g)
+      go (in-user u') = on-user n ns v k₁ k₂ a₁ a₂ r (ih (run n v .left) u' (b₁ .cycles-in) g)
       go (entered l) =
-          on-entry n ns v k₁ k₂ a₁ a₂ r (only-zeros ns (around k₁ (userRun n v .left)) b₁ (entry-sets (l .last) (userRun n v .left) (l .entry)) g) l (user-run k₁ (l .n) v u (λ i q. w i (let e = l .budget in omega arith)) .is k₁)
+          on-entry n ns v k₁ k₂ a₁ a₂ r (only-zeros ns (around k₁ (run n v .left)) b₁ (entry-sets (l .last) (run n v .left) (l .entry)) g) l (user-run k₁ (l .n) v u (λ i q. w i (let e = l .budget in omega arith)) .is)
 
-  user-calls : (ns : List ℕ) (v : View) → User (v .core) → v .cycles < CYCLES-END → GoesNoFurther ns (lentOf (around k₁ v)) → UserCalls ns v k₁ k₂
+  user-calls : (ns : List ℕ) (v : Machine) → User (v .core) → v .cycles < CYCLES-END → GoesNoFurther ns (lentOf (around k₁ v)) → UserCalls ns v k₁ k₂
   unfolding calls answers
   user-calls [] v u c f =
-      record { after = v; left₁ = refl; left₂ = refl; same = refl; entry = λ s. absurd (true≢false (sym s ∙ u .clear)) }
+      let clear : supervisor (v .core .regs) ≡ true → ⊥ = λ s. true≢false (sym s ∙ u .clear) in
+      record { after = v; left₁ = refl; left₂ = refl; same = refl; entry₁ = λ s. absurd (clear s); entry₂ = λ s. absurd (clear s) }
   user-calls (n ∷ ns) v u c f = list-on n ns v u c f (λ w u' c' f'. user-calls ns w u' c' f')
 
 -- ---- the theorem
@@ -259,7 +263,7 @@ unfolding calls
 calls-accepted [] l h = h
 calls-accepted (n ∷ ns) l h = calls-accepted ns (runCall n l .left) (runs-accepted n l h .stays)
 
-same-row : (k₁ k₂ : Console) (v : View) (i : ℕ) → 1 ≤ i → i ≤ 9 → at i (rowOf (around k₁ v)) ≡ at i (rowOf (around k₂ v))
+same-row : (k₁ k₂ : Console) (v : Machine) (i : ℕ) → ROW-A ≤ i → i ≤ ROW-SR → at i (rowOf (around k₁ v)) ≡ at i (rowOf (around k₂ v))
 unfolding rowOf
 same-row k₁ k₂ v zero h l = absurd (omega arith)
 same-row k₁ k₂ v (suc zero) h l = refl
@@ -273,15 +277,15 @@ same-row k₁ k₂ v (suc (suc (suc (suc (suc (suc (suc (suc zero)))))))) h l = 
 same-row k₁ k₂ v (suc (suc (suc (suc (suc (suc (suc (suc (suc zero))))))))) h l = refl
 same-row k₁ k₂ v (suc (suc (suc (suc (suc (suc (suc (suc (suc (suc i)))))))))) h l = absurd (omega arith)
 
-same-console : (k : Console) (v w : View) → SameConsole (lentOf (around k v)) (lentOf (around k w))
+same-console : (k : Console) (v w : Machine) → SameConsole (lentOf (around k v)) (lentOf (around k w))
 unfolding rowOf
 same-console k v w = record { queue = refl; output = refl; enable = refl; flag = refl; start = refl; count = refl; written = refl }
 
-around-whole : (k₁ k₂ : Console) (v : View) → AcceptedMachine (around k₁ v) → AcceptedMachine (around k₂ v) → User (v .core) → (ns : List ℕ) → GoesNoFurther ns (lentOf (around k₁ v)) → Whole (lentOf (around k₁ v)) (lentOf (around k₂ v)) ns
+around-whole : (k₁ k₂ : Console) (v : Machine) → AcceptedMachine (around k₁ v) → AcceptedMachine (around k₂ v) → User (v .core) → (ns : List ℕ) → GoesNoFurther ns (lentOf (around k₁ v)) → Whole (lentOf (around k₁ v)) (lentOf (around k₂ v)) ns
 unfolding rowOf
 around-whole k₁ k₂ v a₁ a₂ u ns f =
-    let in₁ : ConsoleIn k₁ = (let h = a₁ .console-in in record { some = h .some; few = h .few; small = h .small; start-in = h .start-in; count-in = h .count-in; written-in = h .written-in }) in
-    let in₂ : ConsoleIn k₂ = (let h = a₂ .console-in in record { some = h .some; few = h .few; small = h .small; start-in = h .start-in; count-in = h .count-in; written-in = h .written-in }) in
+    let in₁ : ConsoleIn k₁ = marks-in (around k₁ v .console) (k₁ .marks) (a₁ .console-in) in
+    let in₂ : ConsoleIn k₂ = marks-in (around k₂ v .console) (k₂ .marks) (a₂ .console-in) in
     let c = user-calls k₁ k₂ in₁ in₂ ns v u (a₁ .cycles-in) f in
     let w = c .after in
     let alike : Alike (lentOf (around k₁ w)) (lentOf (around k₂ w)) = record { cells = refl; registers = same-row k₁ k₂ w; cycles = refl; pending = refl } in
@@ -292,17 +296,15 @@ around-whole k₁ k₂ v a₁ a₂ u ns f =
       same = c .same;
       console₁ = subst (λ (x : Lent). SameConsole (lentOf (around k₁ v)) x) (sym (c .left₁)) (same-console k₁ v w);
       console₂ = subst (λ (x : Lent). SameConsole (lentOf (around k₂ v)) x) (sym (c .left₂)) (same-console k₂ v w);
-      entry = λ s. c .entry (sym (lent-supervisor (around k₁ w)) ∙ sym (ap lentSupervisor (c .left₁)) ∙ s);
+      entry₁ = λ s. c .entry₁ (sym (lent-supervisor (around k₁ w)) ∙ sym (ap lentSupervisor (c .left₁)) ∙ s);
+      entry₂ = λ s. c .entry₂ (sym (lent-supervisor (around k₂ w)) ∙ sym (ap lentSupervisor (c .left₂)) ∙ s);
     }
 
--- two machines that are alike are one view in two consoles
-abbrev registersOf : List ℤ → Registers
-registersOf row =
-    record { a = cellOfRow 1 row; b = cellOfRow 4 row; pc = natAbs (at 7 row); sp = natAbs (at 8 row); sr = at 9 row }
-
-view-same : (l₁ l₂ : Lent) → Alike l₁ l₂ → viewOf (lentMachine l₁) ≡ viewOf (lentMachine l₂)
+-- two machines that are alike are one machine in two consoles
+-- (the second console around the first machine is the second machine)
+around-same : (l₁ l₂ : Lent) → Alike l₁ l₂ → around (lentMachine l₂ .console) (lentMachine l₁) ≡ lentMachine l₂
 unfolding machineOf
-view-same l₁ l₂ e =
+around-same l₁ l₂ e =
     let g = e .registers in
     let p₁ = g 1 (omega arith) (omega arith) in
     let p₂ = g 2 (omega arith) (omega arith) in
@@ -313,10 +315,7 @@ view-same l₁ l₂ e =
     let p₇ = g 7 (omega arith) (omega arith) in
     let p₈ = g 8 (omega arith) (omega arith) in
     let p₉ = g 9 (omega arith) (omega arith) in
-    λ i. view (core (e .cells i) (record { a = cell (p₁ i) (p₂ i) (p₃ i); b = cell (p₄ i) (p₅ i) (p₆ i); pc = natAbs (p₇ i); sp = natAbs (p₈ i); sr = p₉ i })) (natAbs (e .cycles i)) (eqZ (e .pending i) (pos 1))
-
-around-view : (m : Machine) → around (m .console) (viewOf m) ≡ m
-around-view m = refl
+    λ i. machine (core (e .cells i) (record { a = cell (p₁ i) (p₂ i) (p₃ i); b = cell (p₄ i) (p₅ i) (p₆ i); pc = natAbs (p₇ i); sp = natAbs (p₈ i); sr = p₉ i })) (natAbs (e .cycles i)) (console (lentMachine l₂ .console) (eqZ (e .pending i) (pos 1)))
 
 pub user-mode : UserMode
 unfolding lentSupervisor supervisor machineOf
@@ -325,9 +324,9 @@ user-mode l₁ l₂ h₁ h₂ clear alike ns f =
     let m₂ = lentMachine l₂ in
     let k₁ = m₁ .console in
     let k₂ = m₂ .console in
-    let v = viewOf m₁ in
+    let v = m₁ in
     let e₁ : lentOf (around k₁ v) ≡ l₁ = row-back l₁ h₁ in
-    let e : around k₂ v ≡ m₂ = ap (around k₂) (view-same l₁ l₂ alike) in
+    let e : around k₂ v ≡ m₂ = around-same l₁ l₂ alike in
     let e₂ : lentOf (around k₂ v) ≡ l₂ = ap lentOf e ∙ row-back l₂ h₂ in
     let a₁ = accepted-machine l₁ h₁ in
     let a₂ : AcceptedMachine (around k₂ v) = subst AcceptedMachine (sym e) (accepted-machine l₂ h₂) in

@@ -1,104 +1,48 @@
--- A step begun with S clear: it depends on cells, registers, cycles and pending mark alone, and leaves the rest of the console.
+-- A step begun with S clear: in another console it does the same, and leaves that console but for the pending mark.
 use mathlib.Core.Path.{_≡_, refl, sym, ap, _∙_, subst}
-use mathlib.Core.Bool.{Bool, true, false, cond, true≢false, _&&_}
+use mathlib.Core.Bool.{Bool, true, false, cond, _&&_}
 use mathlib.Core.List.{List}
-use Prim.Native.Nat.{ℕ, zero, suc, _+_, _<_, _≤_}
+use Prim.Native.Nat.{ℕ, zero, suc, _+_, _≤_}
 use native.Mathlib.Omega.{arith}
 use lib.IntN.{ℤ, pos}
 use lib.Dec.{ltb}
-use Rattle.definition.specs.declared.Cell.{Cell}
-use Rattle.definition.specs.declared.Registers.{Registers}
 use Rattle.definition.specs.declared.Error.{Error}
 use Rattle.definition.specs.declared.Error.the-variants.{DivByZero, InvalidInstruction, PrivilegedInstruction, Trap, InvalidMemoryAccess, CellError, Extract, InvalidPc, InvalidSp, InvalidSr, Reset}
-use Rattle.definition.specs.Constants.{SUPERVISOR, INTERRUPT-ENABLE, CYCLES-END}
+use Rattle.definition.specs.Constants.{SUPERVISOR, CYCLES-END}
 use Rattle.definition.specs.Word.{bit, putBit}
 use Rattle.definition.specs.Exception.{Ending, exception, stop, ending, HARDWARE-INTERRUPT, NO-HANDLER, CYCLES-FULL}
-use Rattle.definition.specs.Memory.{word, cellCount, cellAt, putCell, isInstruction}
+use Rattle.definition.specs.Memory.{word, cellCount, cellAt}
 use Rattle.definition.specs.Registers.{supervisor, interruptEnable}
 use Rattle.definition.specs.Io.{Console, with-marks, with-pending}
-use Rattle.definition.specs.Computer.{Core, core, Res, ok, err}
+use Rattle.definition.specs.Exec.{Core, with-cells, Res, ok, err}
 use Rattle.definition.specs.Instructions.{Request, nothing}
-use Rattle.definition.specs.Runtime.{Machine, machine, Executed, attempt, ends, poll, conclude, serve, afterAttempt, turn, hasHandler, saved, enteredSr, enteredRegisters, entered, recover, settle, reached, limit, step}
-use Rattle.definition.specs.Runtime as M
+use Rattle.definition.specs.Runtime.{Machine, with-core, with-cycles, with-console, with-mark, Executed, attempt, Turn, completes, enters, stops, ends, poll, conclude, serve, afterAttempt, turn, Outcome, completed, stopped, hasHandler, saved, enteredSr, enteredRegisters, enteredCore, entered, recover, settle, reached, limit, step}
+use Rattle.definition.specs.Accepted.{Sound, AcceptedCore}
 use Rattle.definition.proofs.Bits.{put-same, put-other}
-use Rattle.definition.proofs.Keeps.{Addr, Good, attempt-keeps}
-use Rattle.definition.proofs.AcceptedCore.{AcceptedCore, User, Silent, Sound, user-laws, accepted-put, with-registers, word-sound, count-put, cell-same, cell-other}
+use Rattle.definition.proofs.Cells.{count-put, cell-same, cell-other}
+use Rattle.definition.proofs.Keeps.{Good, attempt-keeps}
+use Rattle.definition.proofs.AcceptedCore.{User, Silent, user-laws, accepted-put, with-registers, word-sound}
 
--- ---- what a user-mode step works on, and the machine around it
-
-pub record View : Type 0 where
-  pub core : Core
-  pub cycles : ℕ
-  pub pending : Bool
-
-abbrev pub view : Core → ℕ → Bool → View
-view c n p = record { core = c; cycles = n; pending = p }
+-- ---- a machine, and another console around it
 
 -- the console k with another pending mark
 abbrev pub console : Console → Bool → Console
 console k p = with-marks (with-pending p (k .marks)) k
 
-abbrev pub around : Console → View → Machine
-around k v = machine (v .core) (v .cycles) (console k (v .pending))
+-- the machine m with the console k, but for m's own pending mark
+abbrev pub around : Console → Machine → Machine
+around k m = with-console (console k (m .console .marks .pending)) m
 
-abbrev pub viewOf : Machine → View
-viewOf m = view (m .core) (m .cycles) (m .console .marks .pending)
+abbrev pub turnAround : Console → Turn → Turn
+turnAround k (completes m) = completes (around k m)
+turnAround k (enters n m) = enters n (around k m)
+turnAround k (stops n d m) = stops n d (around k m)
 
-pub data UserTurn : Type 0 where
-  completes : View → UserTurn
-  enters : ℕ → View → UserTurn
-  stops : ℕ → ℕ → View → UserTurn
+abbrev pub outcomeAround : Console → Outcome → Outcome
+outcomeAround k (completed m) = completed (around k m)
+outcomeAround k (stopped n d m) = stopped n d (around k m)
 
-pub data UserOutcome : Type 0 where
-  completed : View → UserOutcome
-  stopped : ℕ → ℕ → View → UserOutcome
-
-abbrev pub turnAround : Console → UserTurn → M.Turn
-turnAround k (completes v) = M.completes (around k v)
-turnAround k (enters n v) = M.enters n (around k v)
-turnAround k (stops n d v) = M.stops n d (around k v)
-
-abbrev pub outcomeAround : Console → UserOutcome → M.Outcome
-outcomeAround k (completed v) = M.completed (around k v)
-outcomeAround k (stopped n d v) = M.stopped n d (around k v)
-
--- ---- the step on the view
-
-abbrev userEnds : Ending → View → UserTurn
-userEnds (exception k) v = enters k v
-userEnds (stop n d) v = stops n d v
-
-abbrev userPoll : View → UserTurn
-userPoll v =
-    cond (interruptEnable (v .core .regs) && v .pending) (enters HARDWARE-INTERRUPT (view (v .core) (v .cycles) false)) (completes v)
-
-abbrev userAfter : View → Res Executed → UserTurn
-userAfter v (ok x c) = userPoll (view c (v .cycles + x .cost) (v .pending))
-userAfter v (err e c) = userEnds (ending e) (view c (v .cycles) (v .pending))
-
-unfoldable pub userTurn : View → UserTurn
-userTurn v = userAfter v (attempt (v .core))
-
-unfoldable pub userEntered : ℕ → View → View
-userEntered k v =
-    view (core (saved (v .core .regs .pc) (v .core .regs .sr) k (v .core .cells)) (enteredRegisters k (v .core .regs))) (suc (v .cycles)) (v .pending)
-
-abbrev userSettle : UserTurn → UserOutcome
-userSettle (completes v) = completed v
-userSettle (enters k v) = cond (hasHandler (v .core .cells)) (completed (userEntered k v)) (stopped NO-HANDLER k v)
-userSettle (stops n d v) = stopped n d v
-
-abbrev userReached : UserOutcome → View
-userReached (completed v) = v
-userReached (stopped n d v) = v
-
-abbrev userLimit : View → UserOutcome → UserOutcome
-userLimit v o = cond (ltb (userReached o .cycles) CYCLES-END) o (stopped CYCLES-FULL 0 v)
-
-unfoldable pub userStep : View → UserOutcome
-userStep v = userLimit v (userSettle (userTurn v))
-
--- ---- it is the machine's step
+-- ---- a user-mode step is the same step in every console
 
 abbrev GoodUser : Res Executed → Type 0
 GoodUser r = Good User Sound ⊥ Silent user-laws (λ (x : Executed). Silent (x .request)) r
@@ -106,134 +50,144 @@ GoodUser r = Good User Sound ⊥ Silent user-laws (λ (x : Executed). Silent (x 
 pub attempt-user : (c : Core) → User c → GoodUser (attempt c)
 attempt-user = attempt-keeps User Sound ⊥ Silent user-laws
 
-ends-is : (k : Console) (e : Ending) (v : View) → ends e (around k v) ≡ turnAround k (userEnds e v)
+ends-is : (k : Console) (e : Ending) (m : Machine) → ends e (around k m) ≡ turnAround k (ends e m)
 unfolding ends
-ends-is k (exception n) v = refl
-ends-is k (stop n d) v = refl
+ends-is k (exception n) m = refl
+ends-is k (stop n d) m = refl
 
-poll-is : (k : Console) (v : View) → poll (around k v) ≡ turnAround k (userPoll v)
+poll-is : (k : Console) (m : Machine) → poll (around k m) ≡ turnAround k (poll m)
 unfolding poll
-poll-is k v = go (interruptEnable (v .core .regs) && v .pending)
+poll-is k m = go (interruptEnable (m .core .regs) && m .console .marks .pending)
   where
-    go : (b : Bool) → cond b (M.enters HARDWARE-INTERRUPT (around k (view (v .core) (v .cycles) false))) (M.completes (around k v)) ≡ turnAround k (cond b (enters HARDWARE-INTERRUPT (view (v .core) (v .cycles) false)) (completes v))
+    go : (b : Bool) → cond b (enters HARDWARE-INTERRUPT (around k (with-mark false m))) (completes (around k m)) ≡ turnAround k (cond b (enters HARDWARE-INTERRUPT (with-mark false m)) (completes m))
     go true = refl
     go false = refl
 
-after-is : (k : Console) (v : View) (r : Res Executed) → GoodUser r → afterAttempt (around k v) r ≡ turnAround k (userAfter v r)
-unfolding afterAttempt serve conclude
-after-is k v (ok x c) g =
-    ap (λ q. serve (around k v) q (x .cost) c) (g .0) ∙ poll-is k (view c (v .cycles + x .cost) (v .pending))
-after-is k v (err e c) g = ends-is k (ending e) (view c (v .cycles) (v .pending))
+-- it asks nothing of the console
+serve-nothing : (m : Machine) (q : Request) (cost : ℕ) (c : Core) → Silent q → serve m q cost c ≡ poll (with-cycles (m .cycles + cost) (with-core c m))
+unfolding serve conclude
+serve-nothing m q cost c e = ap (λ q. serve m q cost c) e
 
-pub turn-is : (k : Console) (v : View) → User (v .core) → turn (around k v) ≡ turnAround k (userTurn v)
-unfolding turn userTurn
-turn-is k v u = after-is k v (attempt (v .core)) (attempt-user (v .core) u)
+after-is : (k : Console) (m : Machine) (r : Res Executed) → GoodUser r → afterAttempt (around k m) r ≡ turnAround k (afterAttempt m r)
+unfolding afterAttempt
+after-is k m (ok x c) g =
+    serve-nothing (around k m) (x .request) (x .cost) c (g .0) ∙ poll-is k (with-cycles (m .cycles + x .cost) (with-core c m)) ∙ sym (ap (turnAround k) (serve-nothing m (x .request) (x .cost) c (g .0)))
+after-is k m (err e c) g = ends-is k (ending e) (with-core c m)
 
-settle-is : (k : Console) (t : UserTurn) → settle (turnAround k t) ≡ outcomeAround k (userSettle t)
-unfolding settle recover userEntered entered
-settle-is k (completes v) = refl
-settle-is k (enters n v) = go (hasHandler (v .core .cells))
+pub turn-is : (k : Console) (m : Machine) → User (m .core) → turn (around k m) ≡ turnAround k (turn m)
+unfolding turn
+turn-is k m u = after-is k m (attempt (m .core)) (attempt-user (m .core) u)
+
+settle-is : (k : Console) (t : Turn) → settle (turnAround k t) ≡ outcomeAround k (settle t)
+unfolding settle recover entered
+settle-is k (completes m) = refl
+settle-is k (enters n m) = go (hasHandler (m .core .cells))
   where
-    go : (b : Bool) → cond b (M.completed (entered n (around k v))) (M.stopped NO-HANDLER n (around k v)) ≡ outcomeAround k (cond b (completed (userEntered n v)) (stopped NO-HANDLER n v))
+    go : (b : Bool) → cond b (completed (entered n (around k m))) (stopped NO-HANDLER n (around k m)) ≡ outcomeAround k (cond b (completed (entered n m)) (stopped NO-HANDLER n m))
     go true = refl
     go false = refl
-settle-is k (stops n d v) = refl
+settle-is k (stops n d m) = refl
 
-limit-is : (k : Console) (v : View) (o : UserOutcome) → limit (around k v) (outcomeAround k o) ≡ outcomeAround k (userLimit v o)
+limit-is : (k : Console) (m : Machine) (o : Outcome) → limit (around k m) (outcomeAround k o) ≡ outcomeAround k (limit m o)
 unfolding limit reached
-limit-is k v (completed w) = go (ltb (w .cycles) CYCLES-END)
+limit-is k m (completed w) = go (ltb (w .cycles) CYCLES-END)
   where
-    go : (b : Bool) → cond b (M.completed (around k w)) (M.stopped CYCLES-FULL 0 (around k v)) ≡ outcomeAround k (cond b (completed w) (stopped CYCLES-FULL 0 v))
+    go : (b : Bool) → cond b (completed (around k w)) (stopped CYCLES-FULL 0 (around k m)) ≡ outcomeAround k (cond b (completed w) (stopped CYCLES-FULL 0 m))
     go true = refl
     go false = refl
-limit-is k v (stopped n d w) = go (ltb (w .cycles) CYCLES-END)
+limit-is k m (stopped n d w) = go (ltb (w .cycles) CYCLES-END)
   where
-    go : (b : Bool) → cond b (M.stopped n d (around k w)) (M.stopped CYCLES-FULL 0 (around k v)) ≡ outcomeAround k (cond b (stopped n d w) (stopped CYCLES-FULL 0 v))
+    go : (b : Bool) → cond b (stopped n d (around k w)) (stopped CYCLES-FULL 0 (around k m)) ≡ outcomeAround k (cond b (stopped n d w) (stopped CYCLES-FULL 0 m))
     go true = refl
     go false = refl
 
-pub step-is : (k : Console) (v : View) → User (v .core) → step (around k v) ≡ outcomeAround k (userStep v)
-unfolding step userStep
-step-is k v u =
-    ap (λ t. limit (around k v) (settle t)) (turn-is k v u) ∙ ap (limit (around k v)) (settle-is k (userTurn v)) ∙ limit-is k v (userSettle (userTurn v))
+pub step-is : (k : Console) (m : Machine) → User (m .core) → step (around k m) ≡ outcomeAround k (step m)
+unfolding step
+step-is k m u =
+    ap (λ t. limit (around k m) (settle t)) (turn-is k m u) ∙ ap (limit (around k m)) (settle-is k (turn m)) ∙ limit-is k m (settle (turn m))
 
 -- ---- how a completed step ends: still in user mode, or by exception entry
 
-pub record Entered (v v' : View) : Type 0 where
+pub record Entered (m m' : Machine) : Type 0 where
   pub code : ℕ
-  pub moment : View
-  pub turns : userTurn v ≡ enters code moment
+  pub moment : Machine
+  pub turns : turn m ≡ enters code moment
   pub user : User (moment .core)
   pub small : code ≤ 5
   pub handler : hasHandler (moment .core .cells) ≡ true
-  pub taken : code ≡ 0 → moment .pending ≡ false
-  pub leaves : v' ≡ userEntered code moment
+  pub taken : code ≡ 0 → moment .console .marks .pending ≡ false
+  pub leaves : m' ≡ entered code moment
 
-pub data Ends (v v' : View) : Type 0 where
-  stays : User (v' .core) → Ends v v'
-  enters : Entered v v' → Ends v v'
+pub data Ends (m m' : Machine) : Type 0 where
+  stays : User (m' .core) → Ends m m'
+  entry : Entered m m' → Ends m m'
 
-abbrev pub OutcomeEnds : View → UserOutcome → Type 0
-OutcomeEnds v (completed v') = Ends v v'
-OutcomeEnds v (stopped n d v') = User (v' .core)
+abbrev pub OutcomeEnds : Machine → Outcome → Type 0
+OutcomeEnds m (completed m') = Ends m m'
+OutcomeEnds m (stopped n d m') = User (m' .core)
 
 -- what is known where a step arrives
-abbrev TurnEnds : UserTurn → Type 0
-TurnEnds (completes v) = User (v .core)
-TurnEnds (enters k v) = User (v .core) × ((k ≤ 5) × (k ≡ 0 → v .pending ≡ false))
-TurnEnds (stops n d v) = User (v .core)
+abbrev TurnEnds : Turn → Type 0
+TurnEnds (completes m) = User (m .core)
+TurnEnds (enters k m) = User (m .core) × ((k ≤ 5) × (k ≡ 0 → m .console .marks .pending ≡ false))
+TurnEnds (stops n d m) = User (m .core)
 
-ending-ends : (e : Error) (v : View) → User (v .core) → TurnEnds (userEnds (ending e) v)
-unfolding ending
-ending-ends DivByZero v u = (u, (omega arith, λ h. absurd (omega arith)))
-ending-ends InvalidInstruction v u = (u, (omega arith, λ h. absurd (omega arith)))
-ending-ends PrivilegedInstruction v u = (u, (omega arith, λ h. absurd (omega arith)))
-ending-ends Trap v u = (u, (omega arith, λ h. absurd (omega arith)))
-ending-ends InvalidMemoryAccess v u = (u, (omega arith, λ h. absurd (omega arith)))
-ending-ends CellError v u = u
-ending-ends Extract v u = u
-ending-ends InvalidPc v u = u
-ending-ends InvalidSp v u = u
-ending-ends InvalidSr v u = u
-ending-ends Reset v u = u
+ending-ends : (e : Error) (m : Machine) → User (m .core) → TurnEnds (ends (ending e) m)
+unfolding ending ends
+ending-ends DivByZero m u = (u, (omega arith, λ h. absurd (omega arith)))
+ending-ends InvalidInstruction m u = (u, (omega arith, λ h. absurd (omega arith)))
+ending-ends PrivilegedInstruction m u = (u, (omega arith, λ h. absurd (omega arith)))
+ending-ends Trap m u = (u, (omega arith, λ h. absurd (omega arith)))
+ending-ends InvalidMemoryAccess m u = (u, (omega arith, λ h. absurd (omega arith)))
+ending-ends CellError m u = u
+ending-ends Extract m u = u
+ending-ends InvalidPc m u = u
+ending-ends InvalidSp m u = u
+ending-ends InvalidSr m u = u
+ending-ends Reset m u = u
 
-poll-ends : (v : View) → User (v .core) → TurnEnds (userPoll v)
-poll-ends v u = go (interruptEnable (v .core .regs) && v .pending)
+poll-ends : (m : Machine) → User (m .core) → TurnEnds (poll m)
+unfolding poll
+poll-ends m u = go (interruptEnable (m .core .regs) && m .console .marks .pending)
   where
-    go : (b : Bool) → TurnEnds (cond b (enters HARDWARE-INTERRUPT (view (v .core) (v .cycles) false)) (completes v))
+    go : (b : Bool) → TurnEnds (cond b (enters HARDWARE-INTERRUPT (with-mark false m)) (completes m))
     go true = (u, (omega arith, λ h. refl))
     go false = u
 
-after-ends : (v : View) (r : Res Executed) → GoodUser r → TurnEnds (userAfter v r)
-after-ends v (ok x c) g = poll-ends (view c (v .cycles + x .cost) (v .pending)) (g .1)
-after-ends v (err e c) g = ending-ends e (view c (v .cycles) (v .pending)) g
+after-ends : (m : Machine) (r : Res Executed) → GoodUser r → TurnEnds (afterAttempt m r)
+unfolding afterAttempt
+after-ends m (ok x c) g =
+    subst TurnEnds (sym (serve-nothing m (x .request) (x .cost) c (g .0))) (poll-ends (with-cycles (m .cycles + x .cost) (with-core c m)) (g .1))
+after-ends m (err e c) g = ending-ends e (with-core c m) g
 
-settle-ends : (v : View) (t : UserTurn) → userTurn v ≡ t → TurnEnds t → OutcomeEnds v (userSettle t)
-settle-ends v (completes w) h e = stays e
-settle-ends v (enters k w) h e = go (hasHandler (w .core .cells)) refl
+settle-ends : (m : Machine) (t : Turn) → turn m ≡ t → TurnEnds t → OutcomeEnds m (settle t)
+unfolding settle recover
+settle-ends m (completes w) h e = stays e
+settle-ends m (enters k w) h e = go (hasHandler (w .core .cells)) refl
   where
-    go : (b : Bool) → hasHandler (w .core .cells) ≡ b → OutcomeEnds v (cond b (completed (userEntered k w)) (stopped NO-HANDLER k w))
+    go : (b : Bool) → hasHandler (w .core .cells) ≡ b → OutcomeEnds m (cond b (completed (entered k w)) (stopped NO-HANDLER k w))
     go true t =
-        enters (record { code = k; moment = w; turns = h; user = e .0; small = e .1 .0; handler = t; taken = e .1 .1; leaves = refl })
+        entry (record { code = k; moment = w; turns = h; user = e .0; small = e .1 .0; handler = t; taken = e .1 .1; leaves = refl })
     go false t = e .0
-settle-ends v (stops n d w) h e = e
+settle-ends m (stops n d w) h e = e
 
-limit-ends : (v : View) → User (v .core) → (o : UserOutcome) → OutcomeEnds v o → OutcomeEnds v (userLimit v o)
-limit-ends v u (completed w) e = go (ltb (w .cycles) CYCLES-END)
+limit-ends : (m : Machine) → User (m .core) → (o : Outcome) → OutcomeEnds m o → OutcomeEnds m (limit m o)
+unfolding limit reached
+limit-ends m u (completed w) e = go (ltb (w .cycles) CYCLES-END)
   where
-    go : (b : Bool) → OutcomeEnds v (cond b (completed w) (stopped CYCLES-FULL 0 v))
+    go : (b : Bool) → OutcomeEnds m (cond b (completed w) (stopped CYCLES-FULL 0 m))
     go true = e
     go false = u
-limit-ends v u (stopped n d w) e = go (ltb (w .cycles) CYCLES-END)
+limit-ends m u (stopped n d w) e = go (ltb (w .cycles) CYCLES-END)
   where
-    go : (b : Bool) → OutcomeEnds v (cond b (stopped n d w) (stopped CYCLES-FULL 0 v))
+    go : (b : Bool) → OutcomeEnds m (cond b (stopped n d w) (stopped CYCLES-FULL 0 m))
     go true = e
     go false = u
 
-pub step-ends : (v : View) → User (v .core) → OutcomeEnds v (userStep v)
-unfolding userStep userTurn
-step-ends v u =
-    limit-ends v u (userSettle (userTurn v)) (settle-ends v (userTurn v) refl (after-ends v (attempt (v .core)) (attempt-user (v .core) u)))
+pub step-ends : (m : Machine) → User (m .core) → OutcomeEnds m (step m)
+unfolding step turn
+step-ends m u =
+    limit-ends m u (settle (turn m)) (settle-ends m (turn m) refl (after-ends m (attempt (m .core)) (attempt-user (m .core) u)))
 
 -- ---- what entry leaves
 
@@ -262,19 +216,23 @@ entered-supervisor zero w =
     put-other 8 false (putBit SUPERVISOR true w) (omega arith) 9 (λ e. omega arith) ∙ put-same 9 true w (omega arith)
 entered-supervisor (suc k) w = put-same 9 true w (omega arith)
 
-pub entered-accepted : (k : ℕ) (c : Core) → AcceptedCore c → AcceptedCore (core (saved (c .regs .pc) (c .regs .sr) k (c .cells)) (enteredRegisters k (c .regs)))
-unfolding saved enteredRegisters
-entered-accepted k c f =
+saved-accepted : (pc : ℕ) (sr : ℤ) (k : ℕ) (c : Core) → AcceptedCore c → AcceptedCore (with-cells (saved pc sr k (c .cells)) c)
+unfolding saved
+saved-accepted pc sr k c f =
     let l = f .low in
-    let f₁ = accepted-put c f 100 (omega arith) (word (pos (c .regs .pc))) (word-sound _) in
+    let f₁ = accepted-put c f 100 (omega arith) (word (pos pc)) (word-sound _) in
     let l₁ = f₁ .low in
-    let f₂ = accepted-put _ f₁ 101 (omega arith) (word (c .regs .sr)) (word-sound _) in
+    let f₂ = accepted-put _ f₁ 101 (omega arith) (word sr) (word-sound _) in
     let l₂ = f₂ .low in
-    let f₃ = accepted-put _ f₂ 102 (omega arith) (word (pos k)) (word-sound _) in
-    with-registers _ _ f₃ (omega arith) (f .spA) (f .aS) (f .bS)
+    accepted-put _ f₂ 102 (omega arith) (word (pos k)) (word-sound _)
+
+-- whatever it saves
+pub entered-accepted : (k : ℕ) (c : Core) → AcceptedCore c → AcceptedCore (enteredCore k c)
+unfolding enteredCore enteredRegisters
+entered-accepted k c f = with-registers _ _ (saved-accepted _ _ k c f) (omega arith) (f .spA) (f .aS) (f .bS)
 
 -- S is set after entry
-pub entry-sets : (v v' : View) → Entered v v' → supervisor (v' .core .regs) ≡ true
-unfolding supervisor userEntered enteredRegisters
-entry-sets v v' e =
-    ap (λ (w : View). bit SUPERVISOR (w .core .regs .sr)) (e .leaves) ∙ entered-supervisor (e .code) (e .moment .core .regs .sr)
+pub entry-sets : (m m' : Machine) → Entered m m' → supervisor (m' .core .regs) ≡ true
+unfolding supervisor entered enteredCore enteredRegisters
+entry-sets m m' e =
+    ap (λ (w : Machine). bit SUPERVISOR (w .core .regs .sr)) (e .leaves) ∙ entered-supervisor (e .code) (e .moment .core .regs .sr)

@@ -1,9 +1,8 @@
 -- arguments.rs: the operands, one function a kind, and what each costs.
 use mathlib.Core.List.{List, [], _∷_}
 use Prim.Native.Nat.{ℕ}
-use lib.IntN.{ℤ, pos, _+ℤ_}
+use lib.IntN.{ℤ, _+ℤ_}
 use lib.ListN.{getD}
-use Rattle.definition.specs.declared.Cell.{Cell}
 use Rattle.definition.specs.declared.Registers.{Registers}
 use Rattle.definition.specs.declared.Word.{Word}
 use Rattle.definition.specs.declared.Word.the-variants.{Is, NotWord}

@@ -2,7 +2,7 @@
 -- afterwards. A refused call leaves what it was lent.
 use mathlib.Core.Bool.{Bool, true, false, cond, _&&_, _||_}
 use mathlib.Core.List.{List, [], _∷_, _++_}
-use Prim.Native.Nat.{ℕ, zero, suc, _+_, _*_, _-_, _/_, _%_}
+use Prim.Native.Nat.{ℕ, zero, suc, _+_, _*_, _-_, _%_}
 use lib.IntN.{ℤ, pos, negsuc, natAbs}
 use lib.ListN.{length, getD, set, take, drop, replicate}
 use lib.Dec.{ltb, leb, eqb}
@@ -12,12 +12,12 @@ use Rattle.definition.specs.declared.Ran.{Ran}
 use Rattle.definition.specs.declared.Drained.{Drained}
 use Rattle.definition.specs.declared.CellRead.{CellRead}
 use Rattle.definition.specs.declared.Raised.{Raised}
-use Rattle.definition.specs.Constants.{SUPERVISOR, CELLS-LEAST, CELLS-MOST, QUEUE-MOST, OUTPUT-MOST, CYCLES-END}
+use Rattle.definition.specs.Constants.{SUPERVISOR, CELLS-LEAST, CELLS-MOST, QUEUE-MOST, OUTPUT-MOST, CYCLES-END, ROW, ROW-A, ROW-B, ROW-PC, ROW-SP, ROW-SR, ROW-CYCLES, ROW-ENABLE, ROW-FLAG, ROW-PENDING, ROW-START, ROW-COUNT, ROW-WRITTEN}
 use Rattle.definition.specs.Word.{eqZ, addressOf, bit}
-use Rattle.definition.specs.Memory.{cell, word, cellCount, cellAt}
+use Rattle.definition.specs.Memory.{cell, empty, word, cellCount, cellAt}
 use Rattle.definition.specs.Encoding.{sound, isAddress}
-use Rattle.definition.specs.Io.{Console, marked, delivered, putBytes, firstFree, drained}
-use Rattle.definition.specs.Computer.{core}
+use Rattle.definition.specs.Io.{marked, delivered, putBytes, firstFree, drained}
+use Rattle.definition.specs.Exec.{core}
 use Rattle.definition.specs.Runtime.{Machine, machine, Run, run, Outcome, completed, stopped, recover, limit}
 
 -- ---- the row
@@ -47,9 +47,9 @@ mark false = pos 0
 unfoldable pub machineOf : List ℤ → List ℕ → List ℕ → List ℤ → Machine
 machineOf cells queue output row =
     machine
-    (core cells (record { a = cellOfRow 1 row; b = cellOfRow 4 row; pc = numberOfRow 7 row; sp = numberOfRow 8 row; sr = at 9 row }))
-    (numberOfRow 10 row)
-    (record { marks = marked (markOfRow 11 row) (markOfRow 12 row) (markOfRow 13 row); queue = queue; start = numberOfRow 14 row; count = numberOfRow 15 row; output = output; written = numberOfRow 16 row })
+    (core cells (record { a = cellOfRow ROW-A row; b = cellOfRow ROW-B row; pc = numberOfRow ROW-PC row; sp = numberOfRow ROW-SP row; sr = at ROW-SR row }))
+    (numberOfRow ROW-CYCLES row)
+    (record { marks = marked (markOfRow ROW-ENABLE row) (markOfRow ROW-FLAG row) (markOfRow ROW-PENDING row); queue = queue; start = numberOfRow ROW-START row; count = numberOfRow ROW-COUNT row; output = output; written = numberOfRow ROW-WRITTEN row })
 
 unfoldable pub rowOf : Machine → List ℤ
 rowOf m =
@@ -67,13 +67,17 @@ pub record Test : Type 0 where
 abbrev pub test : ℕ → ℕ → Bool → Test
 test n p b = record { passed = b; number = n; place = p }
 
+-- Number and place of a refusal, 0 and 0 where there is none.
+abbrev pub done : ℕ → ℕ → Done
+done n p = record { refusal = n; place = p }
+
 abbrev pub accepted : Done
-accepted = record { refusal = 0; place = 0 }
+accepted = done 0 0
 
 -- "A refusal gives number and place": those of the first test that fails.
 unfoldable pub verdict : List Test → Done
 verdict [] = accepted
-verdict (t ∷ ts) = cond (t .passed) (verdict ts) (record { refusal = t .number; place = t .place })
+verdict (t ∷ ts) = cond (t .passed) (verdict ts) (done (t .number) (t .place))
 
 abbrev pub passes : Done → Bool
 passes d = eqb (d .refusal) 0
@@ -108,24 +112,24 @@ outputTest output = test 3 0 (leb (length output) OUTPUT-MOST)
 
 -- "4. The row is not 16 long"
 unfoldable pub lengthTest : List ℤ → Test
-lengthTest row = test 4 0 (eqb (length row) 16)
+lengthTest row = test 4 0 (eqb (length row) ROW)
 
 -- "or its number at this place (from 1, the lowest such) is out of range; a damaged a or b counts at place 1 or 4." The queue has q places,
 -- the output record o. "sr any word": no test.
 unfoldable pub rowTests : ℕ → ℕ → List ℤ → List Test
 rowTests q o row =
     lengthTest row
-    ∷ test 4 1 (sound (cellOfRow 1 row))
-    ∷ test 4 4 (sound (cellOfRow 4 row))
-    ∷ test 4 7 (isAddress (addressOf (at 7 row)))
-    ∷ test 4 8 (isAddress (addressOf (at 8 row)))
-    ∷ test 4 10 (isBelow CYCLES-END (at 10 row))
-    ∷ test 4 11 (isMark (at 11 row))
-    ∷ test 4 12 (isMark (at 12 row))
-    ∷ test 4 13 (isMark (at 13 row))
-    ∷ test 4 14 (isBelow q (at 14 row))
-    ∷ test 4 15 (isBelow (suc q) (at 15 row))
-    ∷ test 4 16 (isBelow (suc o) (at 16 row))
+    ∷ test 4 ROW-A (sound (cellOfRow ROW-A row))
+    ∷ test 4 ROW-B (sound (cellOfRow ROW-B row))
+    ∷ test 4 ROW-PC (isAddress (addressOf (at ROW-PC row)))
+    ∷ test 4 ROW-SP (isAddress (addressOf (at ROW-SP row)))
+    ∷ test 4 ROW-CYCLES (isBelow CYCLES-END (at ROW-CYCLES row))
+    ∷ test 4 ROW-ENABLE (isMark (at ROW-ENABLE row))
+    ∷ test 4 ROW-FLAG (isMark (at ROW-FLAG row))
+    ∷ test 4 ROW-PENDING (isMark (at ROW-PENDING row))
+    ∷ test 4 ROW-START (isBelow q (at ROW-START row))
+    ∷ test 4 ROW-COUNT (isBelow (suc q) (at ROW-COUNT row))
+    ∷ test 4 ROW-WRITTEN (isBelow (suc o) (at ROW-WRITTEN row))
     ∷ []
 
 -- "5. The cell at this lowest address is damaged"
@@ -142,6 +146,19 @@ pub record Called (A : Type 0) (L : Type 0) : Type 0 where
 abbrev pub called : {A L : Type 0} → A → L → Called A L
 called a l = record { answer = a; left = l }
 
+-- The answers, each with its verdict: stop, detail and steps of run, stop and detail of raise, the count drained, the cell read.
+abbrev pub answer : Done → ℕ → ℕ → ℕ → Ran
+answer d n k s = record { refusal = d .refusal; place = d .place; stop = n; detail = k; steps = s }
+
+abbrev pub raiseAnswer : Done → ℕ → ℕ → Raised
+raiseAnswer d n k = record { refusal = d .refusal; place = d .place; stop = n; detail = k }
+
+abbrev pub drainAnswer : Done → ℕ → Drained
+drainAnswer d n = record { refusal = d .refusal; place = d .place; count = n }
+
+abbrev pub readAnswer : Done → Cell → CellRead
+readAnswer d v = record { refusal = d .refusal; place = d .place; tag = v .tag; first = v .first; second = v .second }
+
 -- "fresh (all empty, row 0; cells, row)". "Fresh tests lengths only, never the row's old numbers."
 unfoldable pub freshCheck : List ℤ → List ℤ → Done
 freshCheck cells row = verdict (cellsTest cells ∷ lengthTest row ∷ [])
@@ -150,7 +167,7 @@ unfoldable pub fresh : List ℤ → List ℤ → Called Done (List ℤ × List �
 fresh cells row =
     cond
     (passes (freshCheck cells row))
-    (called accepted (replicate (length cells) (pos 0), replicate 16 (pos 0)))
+    (called accepted (replicate (length cells) (pos 0), replicate ROW (pos 0)))
     (called (freshCheck cells row) (cells, row))
 
 -- Everything that run is lent.
@@ -174,10 +191,10 @@ runCheck l =
     verdict (cellsTest (l .cells) ∷ queueTest (l .queue) ∷ outputTest (l .output) ∷ (rowTests (length (l .queue)) (length (l .output)) (l .row) ++ damageTest (l .cells) ∷ []))
 
 unfoldable pub ran : Run → Called Ran Lent
-ran r = called (record { refusal = 0; place = 0; stop = r .stop; detail = r .detail; steps = r .steps }) (lentOf (r .left))
+ran r = called (answer accepted (r .stop) (r .detail) (r .steps)) (lentOf (r .left))
 
 unfoldable pub runRefused : Done → Lent → Called Ran Lent
-runRefused d l = called (record { refusal = d .refusal; place = d .place; stop = 0; detail = 0; steps = 0 }) l
+runRefused d l = called (answer d 0 0 0) l
 
 -- "run (cells, queue, output, row)"
 unfoldable pub runCall : ℕ → Lent → Called Ran Lent
@@ -186,24 +203,24 @@ runCall budget l = cond (passes (runCheck l)) (ran (run budget (lentMachine l)))
 -- "deliver (queue, row)". "6. Delivered bytes exceed the queue's free places."
 unfoldable pub deliverCheck : List ℕ → List ℤ → List ℕ → Done
 deliverCheck queue row bytes =
-    verdict (queueTest queue ∷ (rowTests (length queue) OUTPUT-MOST row ++ test 6 0 (leb (numberOfRow 15 row + length bytes) (length queue)) ∷ []))
+    verdict (queueTest queue ∷ (rowTests (length queue) OUTPUT-MOST row ++ test 6 0 (leb (numberOfRow ROW-COUNT row + length bytes) (length queue)) ∷ []))
 
 unfoldable pub deliveredRow : ℕ → List ℤ → List ℤ
 deliveredRow n row =
-    let k = delivered n (marked (markOfRow 11 row) (markOfRow 12 row) (markOfRow 13 row)) in
-    put 15 (pos (numberOfRow 15 row + n)) (put 13 (mark (k .pending)) (put 12 (mark (k .flag)) row))
+    let k = delivered n (marked (markOfRow ROW-ENABLE row) (markOfRow ROW-FLAG row) (markOfRow ROW-PENDING row)) in
+    put ROW-COUNT (pos (numberOfRow ROW-COUNT row + n)) (put ROW-PENDING (mark (k .pending)) (put ROW-FLAG (mark (k .flag)) row))
 
 unfoldable pub deliver : List ℕ → List ℤ → List ℕ → Called Done (List ℕ × List ℤ)
 deliver queue row bytes =
     cond
     (passes (deliverCheck queue row bytes))
-    (called accepted (putBytes (firstFree queue (numberOfRow 14 row) (numberOfRow 15 row)) bytes queue, deliveredRow (length bytes) row))
+    (called accepted (putBytes (firstFree queue (numberOfRow ROW-START row) (numberOfRow ROW-COUNT row)) bytes queue, deliveredRow (length bytes) row))
     (called (deliverCheck queue row bytes) (queue, row))
 
 -- "drain (output, row)". "7. The drain buffer is shorter than the output count."
 unfoldable pub drainCheck : List ℕ → List ℤ → List ℕ → Done
 drainCheck output row buffer =
-    verdict (outputTest output ∷ (rowTests QUEUE-MOST (length output) row ++ test 7 0 (leb (numberOfRow 16 row) (length buffer)) ∷ []))
+    verdict (outputTest output ∷ (rowTests QUEUE-MOST (length output) row ++ test 7 0 (leb (numberOfRow ROW-WRITTEN row) (length buffer)) ∷ []))
 
 -- "answers their count and sets the count to 0"
 unfoldable pub drain : List ℕ → List ℤ → List ℕ → Called Drained (List ℤ × List ℕ)
@@ -211,8 +228,8 @@ drain output row buffer =
     let d = drainCheck output row buffer in
     cond
     (passes d)
-    (called (record { refusal = 0; place = 0; count = numberOfRow 16 row }) (put 16 (pos 0) row, drained (numberOfRow 16 row) output buffer))
-    (called (record { refusal = d .refusal; place = d .place; count = 0 }) (row, buffer))
+    (called (drainAnswer accepted (numberOfRow ROW-WRITTEN row)) (put ROW-WRITTEN (pos 0) row, drained (numberOfRow ROW-WRITTEN row) output buffer))
+    (called (drainAnswer d 0) (row, buffer))
 
 -- "a cell read [checks] only its own". "8. The cell address or image start is outside the cells." A cell outside has no own cell to be 5.
 unfoldable pub readCheck : List ℤ → ℕ → Done
@@ -222,12 +239,7 @@ readCheck cells n =
 -- "read a cell [...] (cells)"
 unfoldable pub readCell : List ℤ → ℕ → CellRead
 readCell cells n =
-    let d = readCheck cells n in
-    let v = cellAt cells n in
-    cond
-    (passes d)
-    (record { refusal = 0; place = 0; tag = v .tag; first = v .first; second = v .second })
-    (record { refusal = d .refusal; place = d .place; tag = pos 0; first = pos 0; second = pos 0 })
+    cond (passes (readCheck cells n)) (readAnswer accepted (cellAt cells n)) (readAnswer (readCheck cells n) empty)
 
 -- "9. The image is no whole number of cells, runs past the end, or holds a damaged cell."
 unfoldable pub loadCheck : List ℤ → List ℤ → ℕ → Done
@@ -260,10 +272,10 @@ putCellOfRow i v row = put (i + 2) (v .second) (put (i + 1) (v .first) (put i (v
 
 -- "a, b, pc, sp may be set to a word, sr not"
 unfoldable pub withRegister : ℕ → ℤ → List ℤ → List ℤ
-withRegister zero w row = putCellOfRow 1 (word w) row
-withRegister (suc zero) w row = putCellOfRow 4 (word w) row
-withRegister (suc (suc zero)) w row = put 7 w row
-withRegister (suc (suc (suc r))) w row = put 8 w row
+withRegister zero w row = putCellOfRow ROW-A (word w) row
+withRegister (suc zero) w row = putCellOfRow ROW-B (word w) row
+withRegister (suc (suc zero)) w row = put ROW-PC w row
+withRegister (suc (suc (suc r))) w row = put ROW-SP w row
 
 unfoldable pub setRegister : List ℤ → ℕ → ℤ → Called Done (List ℤ)
 setRegister row r w =
@@ -280,8 +292,8 @@ quietMachine cells row = machineOf cells [] [] row
 
 unfoldable pub raised : List ℤ → List ℤ → Outcome → Called Raised (List ℤ × List ℤ)
 raised cells row (completed m) =
-    called (record { refusal = 0; place = 0; stop = 0; detail = 0 }) (m .core .cells, rowOf m)
-raised cells row (stopped n d m) = called (record { refusal = 0; place = 0; stop = n; detail = d }) (cells, row)
+    called (raiseAnswer accepted 0 0) (m .core .cells, rowOf m)
+raised cells row (stopped n d m) = called (raiseAnswer accepted n d) (cells, row)
 
 -- "Raise is `recover_from_exception` and, added, its one cycle: done, or stop 2, or stop 7."
 unfoldable pub raise : List ℤ → List ℤ → ℕ → Called Raised (List ℤ × List ℤ)
@@ -291,7 +303,7 @@ raise cells row code =
     cond
     (passes d)
     (raised cells row (limit m (recover code m)))
-    (called (record { refusal = d .refusal; place = d .place; stop = 0; detail = 0 }) (cells, row))
+    (called (raiseAnswer d 0 0) (cells, row))
 
 -- ---- lists of calls of run
 
@@ -307,4 +319,4 @@ answers (n ∷ ns) l = runCall n l .answer ∷ answers ns (runCall n l .left)
 
 -- S in the row's sr.
 unfoldable pub lentSupervisor : Lent → Bool
-lentSupervisor l = bit SUPERVISOR (at 9 (l .row))
+lentSupervisor l = bit SUPERVISOR (at ROW-SR (l .row))

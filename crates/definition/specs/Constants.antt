@@ -55,3 +55,44 @@ OUTPUT-MOST = 65536
 -- "cycles (0 to 2^63 - 1)": the first number that is too many
 abbrev pub CYCLES-END : ℕ
 CYCLES-END = 2 ^ 63
+
+-- "Row of 16 numbers: a (3), b (3), pc, sp, sr, cycles [...], enable, flag, pending [...], queue start [...], queue count, output count": how
+-- many, and each one's place, from 1.
+abbrev pub ROW : ℕ
+ROW = 16
+
+abbrev pub ROW-A : ℕ
+ROW-A = 1
+
+abbrev pub ROW-B : ℕ
+ROW-B = 4
+
+abbrev pub ROW-PC : ℕ
+ROW-PC = 7
+
+abbrev pub ROW-SP : ℕ
+ROW-SP = 8
+
+abbrev pub ROW-SR : ℕ
+ROW-SR = 9
+
+abbrev pub ROW-CYCLES : ℕ
+ROW-CYCLES = 10
+
+abbrev pub ROW-ENABLE : ℕ
+ROW-ENABLE = 11
+
+abbrev pub ROW-FLAG : ℕ
+ROW-FLAG = 12
+
+abbrev pub ROW-PENDING : ℕ
+ROW-PENDING = 13
+
+abbrev pub ROW-START : ℕ
+ROW-START = 14
+
+abbrev pub ROW-COUNT : ℕ
+ROW-COUNT = 15
+
+abbrev pub ROW-WRITTEN : ℕ
+ROW-WRITTEN = 16

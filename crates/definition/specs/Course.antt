@@ -1,5 +1,6 @@
--- "Course cases": the starred ones as one table, with four more rows: 255 and 256 cells, a privileged instruction in user mode, an interrupt,
--- and an exception beside a pending interrupt. The rows of 10,000 cells cost the most to compute, and stand last. The proof is proofs/Course.
+-- "Course cases": the starred ones as one table, shr beside shl, with five more rows: 255 and 256 cells, a privileged instruction in user
+-- mode, an interrupt, and an exception beside a pending interrupt. The rows of 10,000 cells cost the most to compute, and stand last. The
+-- proof is proofs/Course.
 use mathlib.Core.Path.{_≡_}
 use mathlib.Core.List.{List, [], _∷_}
 use Prim.Native.Nat.{ℕ, _*_}
@@ -7,10 +8,11 @@ use lib.IntN.{ℤ, pos, negsuc}
 use lib.ListN.{replicate}
 use Rattle.definition.specs.declared.Cell.{Cell}
 use Rattle.definition.specs.declared.Ran.{Ran}
+use Rattle.definition.specs.Constants.{ROW, ROW-A, ROW-B, ROW-PC, ROW-SP, ROW-SR, ROW-CYCLES, ROW-PENDING, ROW-WRITTEN}
 use Rattle.definition.specs.Word.{smallest}
-use Rattle.definition.specs.Memory.{cell, empty, word, cellCount, cellAt, putCell}
+use Rattle.definition.specs.Memory.{cell, empty, word, cellAt, putCell}
 use Rattle.definition.specs.Encoding.{tagOf}
-use Rattle.definition.specs.Calls.{Lent, lent, Called, runCall, at, cellOfRow}
+use Rattle.definition.specs.Calls.{Lent, lent, Called, runCall, at, put, cellOfRow, putCellOfRow}
 
 -- A cell of the image, by its address.
 pub record Line : Type 0 where
@@ -46,7 +48,7 @@ abbrev interrupted : ℕ → List Line → ℕ → Case
 interrupted n i k =
     record { size = n; image = i; a = empty; pc = 0; sp = 0; sr = pos 256; pending = pos 1; budget = 1; look = k }
 
--- What is looked at afterwards: refusal, stop, detail and steps; pc, sp, sr, cycles, pending mark and output count; a; and one cell.
+-- What is looked at afterwards: refusal, stop, detail and steps; pc, sp, sr, cycles, pending mark and output count; a and b; and one cell.
 pub record Shown : Type 0 where
   pub refusal : ℕ
   pub stop : ℕ
@@ -59,11 +61,12 @@ pub record Shown : Type 0 where
   pub pending : ℤ
   pub written : ℤ
   pub a : Cell
+  pub b : Cell
   pub there : Cell
 
 abbrev done : ℕ → ℕ → ℕ → ℤ → ℤ → ℤ → ℤ → Cell → Cell → Shown
 done stop detail steps pc sp sr cycles a v =
-    record { refusal = 0; stop = stop; detail = detail; steps = steps; pc = pc; sp = sp; sr = sr; cycles = cycles; pending = pos 0; written = pos 0; a = a; there = v }
+    record { refusal = 0; stop = stop; detail = detail; steps = steps; pc = pc; sp = sp; sr = sr; cycles = cycles; pending = pos 0; written = pos 0; a = a; b = empty; there = v }
 
 -- A case and what it shows.
 pub record Row : Type 0 where
@@ -73,7 +76,7 @@ pub record Row : Type 0 where
 abbrev gives : Case → Shown → Row
 gives c s = record { given = c; expected = s }
 
--- add 5,%a · reset · div n,%a · shl n,%a · nop · push 7 · swap [%a],%a · fas [5],%sr · ld [10000],%a · st %a,[10000] · in [110],%a
+-- add 5,%a · reset · div n,%a · shl n,%a · shr n,%a · nop · push 7 · swap [%a],%a · fas [5],%sr · ld [10000],%a · st %a,[10000] · in [110],%a
 abbrev add5 : Cell
 add5 = cell (pos 202) (pos 5) (pos 0)
 
@@ -85,6 +88,9 @@ div n = cell (pos 3802) n (pos 0)
 
 abbrev shl : ℤ → Cell
 shl n = inst 26 1 2 0 0 n (pos 0)
+
+abbrev shr : ℤ → Cell
+shr n = inst 27 1 2 0 0 n (pos 0)
 
 abbrev nop : Cell
 nop = inst 17 0 0 0 0 (pos 0) (pos 0)
@@ -123,18 +129,22 @@ table =
     ∷ gives (case 256 (line 0 (shl (pos 63)) ∷ []) one 0 0 1 0) (done 0 0 1 (pos 1) (pos 0) (pos 4) (pos 1) (word smallest) (shl (pos 63)))
     ∷ gives (case 256 (line 0 (shl (pos 64)) ∷ []) one 0 0 1 0) (done 2 2 0 (pos 1) (pos 0) (pos 0) (pos 0) one (shl (pos 64)))
     ∷ gives (case 256 (line 0 (shl (negsuc 0)) ∷ []) one 0 0 1 0) (done 2 2 0 (pos 1) (pos 0) (pos 0) (pos 0) one (shl (negsuc 0)))
+    -- the same of shr, which "keeps the sign"
+    ∷ gives (case 256 (line 0 (shr (pos 63)) ∷ []) (word smallest) 0 0 1 0) (done 0 0 1 (pos 1) (pos 0) (pos 4) (pos 1) (word (negsuc 0)) (shr (pos 63)))
+    ∷ gives (case 256 (line 0 (shr (pos 64)) ∷ []) one 0 0 1 0) (done 2 2 0 (pos 1) (pos 0) (pos 0) (pos 0) one (shr (pos 64)))
+    ∷ gives (case 256 (line 0 (shr (negsuc 0)) ∷ []) one 0 0 1 0) (done 2 2 0 (pos 1) (pos 0) (pos 0) (pos 0) one (shr (negsuc 0)))
     -- "budget 0: stop 0, 0 steps"
     ∷ gives (case 256 (line 0 (div (pos 0)) ∷ []) empty 0 0 0 0) (done 0 0 0 (pos 0) (pos 0) (pos 0) (pos 0) empty (div (pos 0)))
     -- "push at sp 0"
     ∷ gives (case 256 (line 0 push7 ∷ []) empty 0 0 1 0) (done 2 5 0 (pos 1) (pos 4294967295) (pos 0) (pos 0) empty push7)
     -- "swap [%a],%a writes through the new a"
     ∷ gives (case 256 (line 0 swapA ∷ line 5 (word (pos 9)) ∷ []) (word (pos 5)) 0 0 1 9) (done 0 0 1 (pos 1) (pos 0) (pos 0) (pos 2) (word (pos 9)) (word (pos 5)))
-    -- "fas [5],%sr in user mode: cell 5 word 1, code 3", with a handler
-    ∷ gives (case 256 (line 0 fasSr ∷ line 200 nop ∷ []) empty 0 0 1 5) (done 0 0 1 (pos 200) (pos 0) (pos 512) (pos 1) empty one)
+    -- "fas [5],%sr in user mode: cell 5 word 1, code 3"
+    ∷ gives (case 256 (line 0 fasSr ∷ []) empty 0 0 1 5) (done 2 3 0 (pos 1) (pos 0) (pos 0) (pos 0) empty one)
     -- "255 and 256 cells"
     ∷ gives
     (case 255 (line 0 nop ∷ []) empty 0 0 1 0)
-    (record { refusal = 1; stop = 0; detail = 0; steps = 0; pc = pos 0; sp = pos 0; sr = pos 0; cycles = pos 0; pending = pos 0; written = pos 0; a = empty; there = nop })
+    (record { refusal = 1; stop = 0; detail = 0; steps = 0; pc = pos 0; sp = pos 0; sr = pos 0; cycles = pos 0; pending = pos 0; written = pos 0; a = empty; b = empty; there = nop })
     ∷ gives (case 256 (line 0 nop ∷ []) empty 0 0 1 255) (done 0 0 1 (pos 1) (pos 0) (pos 0) (pos 1) empty empty)
     -- "in, out and rti check S first": in [110],%a in user mode enters code 3
     ∷ gives (case 256 (line 0 inStatus ∷ line 200 nop ∷ []) empty 0 0 1 102) (done 0 0 1 (pos 200) (pos 0) (pos 512) (pos 1) empty (word (pos 3)))
@@ -143,7 +153,7 @@ table =
     -- "An exception step doesn't poll": code 1 is entered, I and the pending mark stay
     ∷ gives
     (interrupted 256 (line 0 (div (pos 0)) ∷ line 200 nop ∷ []) 102)
-    (record { refusal = 0; stop = 0; detail = 0; steps = 1; pc = pos 200; sp = pos 0; sr = pos 768; cycles = pos 1; pending = pos 1; written = pos 0; a = empty; there = word (pos 1) })
+    (record { refusal = 0; stop = 0; detail = 0; steps = 1; pc = pos 200; sp = pos 0; sr = pos 768; cycles = pos 1; pending = pos 1; written = pos 0; a = empty; b = empty; there = word (pos 1) })
     -- "pc 9,999 fetches, 10,000 code 5"
     ∷ gives (case 10000 (line 9999 nop ∷ []) empty 9999 0 2 9999) (done 2 5 1 (pos 10000) (pos 0) (pos 0) (pos 1) empty nop)
     -- "ld [10000],%a: stop 4; st to it: code 5": the handler of the one is the other
@@ -162,20 +172,17 @@ lentCase c =
     (cellsOf (c .size) (c .image))
     (replicate 256 0)
     (replicate 4096 0)
-    (c .a .tag ∷ c .a .first ∷ c .a .second ∷ pos 0 ∷ pos 0 ∷ pos 0 ∷ pos (c .pc) ∷ pos (c .sp) ∷ c .sr ∷ pos 0 ∷ pos 0 ∷ pos 0 ∷ c .pending ∷ pos 0 ∷ pos 0 ∷ pos 0 ∷ [])
+    (putCellOfRow ROW-A (c .a) (put ROW-PC (pos (c .pc)) (put ROW-SP (pos (c .sp)) (put ROW-SR (c .sr) (put ROW-PENDING (c .pending) (replicate ROW (pos 0)))))))
 
 unfoldable pub shown : ℕ → Called Ran Lent → Shown
 shown look r =
     let row = r .left .row in
-    record { refusal = r .answer .refusal; stop = r .answer .stop; detail = r .answer .detail; steps = r .answer .steps; pc = at 7 row; sp = at 8 row; sr = at 9 row; cycles = at 10 row; pending = at 13 row; written = at 16 row; a = cellOfRow 1 row; there = cellAt (r .left .cells) look }
+    record { refusal = r .answer .refusal; stop = r .answer .stop; detail = r .answer .detail; steps = r .answer .steps; pc = at ROW-PC row; sp = at ROW-SP row; sr = at ROW-SR row; cycles = at ROW-CYCLES row; pending = at ROW-PENDING row; written = at ROW-WRITTEN row; a = cellOfRow ROW-A row; b = cellOfRow ROW-B row; there = cellAt (r .left .cells) look }
 
-unfoldable pub results : List Row → List Shown
-results [] = []
-results (r ∷ rs) = shown (r .given .look) (runCall (r .given .budget) (lentCase (r .given))) ∷ results rs
-
-unfoldable pub expectations : List Row → List Shown
-expectations [] = []
-expectations (r ∷ rs) = r .expected ∷ expectations rs
+-- Each row shows what it should.
+unfoldable pub Shows : List Row → Type 0
+Shows [] = Unit {0}
+Shows (r ∷ rs) = (shown (r .given .look) (runCall (r .given .budget) (lentCase (r .given))) ≡ r .expected) × Shows rs
 
 abbrev pub Course : Type 0
-Course = results table ≡ expectations table
+Course = Shows table

@@ -1,14 +1,15 @@
 -- "Cells and row": the tag of an instruction, the 124 legal forms, the costs, and what is damaged.
+use mathlib.Core.Path.{_≡_}
 use mathlib.Core.Bool.{Bool, true, false, cond, _&&_, _||_}
 use mathlib.Core.List.{List, [], _∷_}
-use Prim.Native.Nat.{ℕ, zero, suc, _+_, _*_, _/_, _%_}
+use Prim.Native.Nat.{ℕ, zero, suc, _+_, _*_, _/_, _%_, _<_}
 use lib.IntN.{ℤ, pos, negsuc}
 use lib.ListN.{getD}
 use lib.Dec.{ltb, leb, eqb}
 use Rattle.definition.specs.declared.Cell.{Cell}
 use Rattle.definition.specs.declared.Address.{Address}
 use Rattle.definition.specs.declared.Address.the-variants.{At, NotAddress}
-use Rattle.definition.specs.Word.{eqZ, addressOf}
+use Rattle.definition.specs.Word.{eqZ, addressOf, digit}
 use Rattle.definition.specs.Memory.{cell}
 use Rattle.definition.specs.Registers.{Reg, regAt}
 use Rattle.definition.specs.Arguments.{Operand, operand, modeCost}
@@ -84,6 +85,18 @@ signature XOR = takes ImmRegDirIndIdx JustReg
 unfoldable pub legal : ℕ → ℕ → ℕ → Bool
 legal o m₁ m₂ = ltb o 33 && (allows (signature (opAt o) .first) m₁ && allows (signature (opAt o) .second) m₂)
 
+-- The count of the numbers below n that pass a test, and of the entries over op, m1 and m2 that are instructions: "one table of 1,188
+-- entries over op, m1 and m2, of which 124 are instructions". The proof is proofs/Encoding.
+unfoldable pub sumBelow : ℕ → (ℕ → ℕ) → ℕ
+sumBelow zero f = 0
+sumBelow (suc n) f = f n + sumBelow n f
+
+abbrev pub entries : (ℕ → ℕ → ℕ → Bool) → ℕ
+entries test = sumBelow 33 (λ o. sumBelow 6 (λ m₁. sumBelow 6 (λ m₂. digit (test o m₁ m₂))))
+
+abbrev pub Forms : Type 0
+Forms = entries legal ≡ 124
+
 -- Instruction::cost, over op, m1 and m2: "An instruction costs one cycle and what its operands add", "the rest are 0".
 unfoldable pub cost : ℕ → ℕ → ℕ → ℕ
 cost o m₁ m₂ = cond (legal o m₁ m₂) (1 + modeCost m₁ + modeCost m₂) 0
@@ -107,6 +120,22 @@ reg₁ t = t / 5 % 5
 
 abbrev pub reg₂ : ℕ → ℕ
 reg₂ t = t % 5
+
+-- The tag and its parts are one another: those of a tag are the numbers that made it, and every number below 33 × 36 × 25 is made of its
+-- parts, each in its range.
+pub record TagParts (o m₁ m₂ r₁ r₂ t : ℕ) : Type 0 where
+  pub op : opNumber t ≡ o
+  pub first-mode : mode₁ t ≡ m₁
+  pub second-mode : mode₂ t ≡ m₂
+  pub first-register : reg₁ t ≡ r₁
+  pub second-register : reg₂ t ≡ r₂
+
+pub record TagLaws : Type 0 where
+  pub parts : (o m₁ m₂ r₁ r₂ t : ℕ) → o < 33 → m₁ < 6 → m₂ < 6 → r₁ < 5 → r₂ < 5 → tagOf o m₁ m₂ r₁ r₂ ≡ 2 + t → TagParts o m₁ m₂ r₁ r₂ t
+  pub back : (t : ℕ) → tagOf (opNumber t) (mode₁ t) (mode₂ t) (reg₁ t) (reg₂ t) ≡ 2 + t
+  pub op-below : (t : ℕ) → t < 29700 → opNumber t < 33
+  pub modes-below : (t : ℕ) → (mode₁ t < 6) × (mode₂ t < 6)
+  pub registers-below : (t : ℕ) → (reg₁ t < 5) × (reg₂ t < 5)
 
 -- An instruction as it is executed: its operands, the registers that its tag names, and its cost.
 pub record Instruction : Type 0 where

@@ -1,21 +1,20 @@
 -- instructions.rs: what each instruction does, the effects in the order of the lines.
-use mathlib.Core.Bool.{Bool, true, false, not, cond, _&&_, _||_}
-use Prim.Native.Nat.{ℕ, zero, suc, _-_}
-use lib.IntN.{ℤ, pos, negsuc, negℤ, natAbs, _+ℤ_, _-ℤ_, _*ℤ_}
+use mathlib.Core.Bool.{Bool, not, cond, _&&_, _||_}
+use Prim.Native.Nat.{ℕ, _-_}
+use lib.IntN.{ℤ, pos, negℤ, natAbs, _+ℤ_, _-ℤ_, _*ℤ_}
 use lib.Signed.{ltZ}
 use Rattle.definition.specs.declared.Cell.{Cell}
 use Rattle.definition.specs.declared.Registers.{Registers}
 use Rattle.definition.specs.declared.Wrapped.{Wrapped}
 use Rattle.definition.specs.declared.Quotient.{Quotient}
 use Rattle.definition.specs.declared.Quotient.the-variants.{Rounded, NoQuotient}
-use Rattle.definition.specs.declared.Error.{Error}
 use Rattle.definition.specs.declared.Error.the-variants.{DivByZero, InvalidInstruction, Trap, InvalidMemoryAccess, CellError, Extract, Reset}
 use Rattle.definition.specs.Constants.{ZERO, NEGATIVE, OVERFLOW, INTERRUPT-PC-SAVE, INTERRUPT-SR-SAVE}
 use Rattle.definition.specs.Word.{eqZ, wrapped, quotient, isShift, shlW, shrW, andW, orW, xorW, notW, bit}
 use Rattle.definition.specs.Memory.{word, extractWord, extractAddress, asAddress}
 use Rattle.definition.specs.Registers.{Reg, getReg, putReg, Put, assigned, refused, putFlag, with-pc, with-sr}
 use Rattle.definition.specs.Arguments.{Operand, none, imm, reg, dir, ind, idx, resolve, extractCell, operandWord}
-use Rattle.definition.specs.Computer.{Core, Exec, Res, ok, err, andThen, _>>=_, _>>_, return, raise, branch, ask, change, orWord, orAddress, orCell, assign, read, write, checkPrivileged, push, pop}
+use Rattle.definition.specs.Exec.{Exec, _>>=_, _>>_, return, raise, branch, ask, change, orWord, orAddress, orCell, assign, read, write, checkPrivileged, push, pop}
 use Rattle.definition.specs.Encoding as E
 use Rattle.definition.specs.Encoding.{Op, Instruction}
 

@@ -1,8 +1,8 @@
 -- io.rs: the serial console on ports 110 and 111. "`VecDeque` and `Vec`: lent bytes and counts."
-use mathlib.Core.Bool.{Bool, true, false, cond, _&&_, _||_}
+use mathlib.Core.Bool.{Bool, true, false, cond, _&&_}
 use mathlib.Core.List.{List, [], _∷_, _++_}
-use Prim.Native.Nat.{ℕ, zero, suc, _+_, _-_}
-use lib.IntN.{ℤ, pos}
+use Prim.Native.Nat.{ℕ, suc, _+_, _-_}
+use lib.IntN.{ℤ}
 use lib.ListN.{length, getD, set, take, drop}
 use lib.Dec.{ltb, leb, eqb}
 use Rattle.definition.specs.declared.Marks.{Marks}

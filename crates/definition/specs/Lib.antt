@@ -6,7 +6,7 @@ pub mod Registers
 pub mod Arguments
 pub mod Encoding
 pub mod Io
-pub mod Computer
+pub mod Exec
 pub mod Instructions
 pub mod Runtime
 pub mod Calls

@@ -1,5 +1,5 @@
 -- memory.rs: cells, and the lent list that holds three numbers for each.
-use mathlib.Core.Bool.{Bool, true, false, not, cond}
+use mathlib.Core.Bool.{Bool, true, false, not}
 use mathlib.Core.List.{List}
 use Prim.Native.Nat.{ℕ, zero, suc, _+_, _*_, _/_}
 use lib.IntN.{ℤ, pos, negsuc}
@@ -10,7 +10,7 @@ use Rattle.definition.specs.declared.Cell.{Cell}
 use Rattle.definition.specs.declared.Word.{Word}
 use Rattle.definition.specs.declared.Word.the-variants.{Is, NotWord}
 use Rattle.definition.specs.declared.Address.{Address}
-use Rattle.definition.specs.declared.Address.the-variants.{At, NotAddress}
+use Rattle.definition.specs.declared.Address.the-variants.{NotAddress}
 use Rattle.definition.specs.declared.Found.{Found}
 use Rattle.definition.specs.declared.Found.the-variants.{Here, Outside}
 use Rattle.definition.specs.Word.{addressOf}

@@ -5,16 +5,15 @@ use Prim.Native.Nat.{ℕ, zero, suc, _+_}
 use lib.IntN.{ℤ, pos}
 use lib.Dec.{ltb}
 use Rattle.definition.specs.declared.Registers.{Registers}
-use Rattle.definition.specs.declared.Error.{Error}
 use Rattle.definition.specs.declared.Error.the-variants.{InvalidInstruction, InvalidMemoryAccess}
 use Rattle.definition.specs.Constants.{INTERRUPT-PC-SAVE, INTERRUPT-SR-SAVE, INTERRUPT-EXCEPTION, INTERRUPT-HANDLER, INTERRUPT-ENABLE, SUPERVISOR, CYCLES-END}
 use Rattle.definition.specs.Word.{putBit}
 use Rattle.definition.specs.Exception.{Ending, exception, stop, ending, HARDWARE-INTERRUPT, BUDGET-SPENT, NO-HANDLER, OUTPUT-FULL, CYCLES-FULL}
 use Rattle.definition.specs.Memory.{word, cellAt, putCell, isInstruction}
-use Rattle.definition.specs.Registers.{Reg, putReg, with-pc, interruptEnable}
+use Rattle.definition.specs.Registers.{with-pc, with-sr, interruptEnable}
 use Rattle.definition.specs.Encoding.{Instruction, Extracted, instruction, noInstruction, extractInstruction}
 use Rattle.definition.specs.Io.{Console, with-marks, with-pending, readPort, writePort, outputFull}
-use Rattle.definition.specs.Computer.{Core, core, Exec, Res, ok, err, andThen, _>>=_, _>>_, return, raise, ask, change, read}
+use Rattle.definition.specs.Exec.{Core, with-regs, with-cells, Exec, Res, ok, err, _>>=_, _>>_, return, raise, ask, change, read}
 use Rattle.definition.specs.Instructions.{Request, nothing, reads, writes, execute, setRegister}
 
 -- The whole computer: cells and registers, cycles, console.
@@ -25,6 +24,20 @@ pub record Machine : Type 0 where
 
 abbrev pub machine : Core → ℕ → Console → Machine
 machine c n k = record { core = c; cycles = n; console = k }
+
+-- One part changed.
+abbrev pub with-core : Core → Machine → Machine
+with-core c m = machine c (m .cycles) (m .console)
+
+abbrev pub with-cycles : ℕ → Machine → Machine
+with-cycles n m = machine (m .core) n (m .console)
+
+abbrev pub with-console : Console → Machine → Machine
+with-console k m = machine (m .core) (m .cycles) k
+
+-- The console's pending mark given another value.
+abbrev pub with-mark : Bool → Machine → Machine
+with-mark p m = with-console (with-marks (with-pending p (m .console .marks)) (m .console)) m
 
 -- ---- an instruction, fetched and executed
 
@@ -69,25 +82,25 @@ unfoldable pub poll : Machine → Turn
 poll m =
     cond
     (interruptEnable (m .core .regs) && m .console .marks .pending)
-    (enters HARDWARE-INTERRUPT (machine (m .core) (m .cycles) (with-marks (with-pending false (m .console .marks)) (m .console))))
+    (enters HARDWARE-INTERRUPT (with-mark false m))
     (completes m)
 
 -- "After a completed instruction its cost is added". "An exception step doesn't poll."
-unfoldable pub conclude : ℕ → ℕ → Console → Res (Unit {0}) → Turn
-conclude cost n k (ok u c) = poll (machine c (n + cost) k)
-conclude cost n k (err e c) = ends (ending e) (machine c n k)
+unfoldable pub conclude : ℕ → Machine → Res (Unit {0}) → Turn
+conclude cost m (ok u c) = poll (with-cycles (m .cycles + cost) (with-core c m))
+conclude cost m (err e c) = ends (ending e) (with-core c m)
 
 -- The console serves what the instruction asks; m is the machine before the step.
 unfoldable pub serve : Machine → Request → ℕ → Core → Turn
-serve m nothing cost c = conclude cost (m .cycles) (m .console) (ok tt c)
+serve m nothing cost c = conclude cost m (ok tt c)
 serve m (reads p r) cost c =
-    conclude cost (m .cycles) (readPort p (m .console) .1) (setRegister r (word (pos (readPort p (m .console) .0))) c)
+    conclude cost (with-console (readPort p (m .console) .1) m) (setRegister r (word (pos (readPort p (m .console) .0))) c)
 serve m (writes p w) cost c =
-    cond (outputFull p (m .console)) (stops OUTPUT-FULL 0 m) (conclude cost (m .cycles) (writePort p w (m .console)) (ok tt c))
+    cond (outputFull p (m .console)) (stops OUTPUT-FULL 0 m) (conclude cost (with-console (writePort p w (m .console)) m) (ok tt c))
 
 unfoldable pub afterAttempt : Machine → Res Executed → Turn
 afterAttempt m (ok x c) = serve m (x .request) (x .cost) c
-afterAttempt m (err e c) = ends (ending e) (machine c (m .cycles) (m .console))
+afterAttempt m (err e c) = ends (ending e) (with-core c m)
 
 unfoldable pub turn : Machine → Turn
 turn m = afterAttempt m (attempt (m .core))
@@ -116,15 +129,14 @@ enteredSr (suc k) w = putBit SUPERVISOR true w
 
 -- "pc is 200"
 unfoldable pub enteredRegisters : ℕ → Registers → Registers
-enteredRegisters k s = record { a = s .a; b = s .b; pc = INTERRUPT-HANDLER; sp = s .sp; sr = enteredSr k (s .sr) }
+enteredRegisters k s = with-pc INTERRUPT-HANDLER (with-sr (enteredSr k (s .sr)) s)
+
+unfoldable pub enteredCore : ℕ → Core → Core
+enteredCore k c = with-cells (saved (c .regs .pc) (c .regs .sr) k (c .cells)) (with-regs (enteredRegisters k (c .regs)) c)
 
 -- "and one cycle is added"
 unfoldable pub entered : ℕ → Machine → Machine
-entered k m =
-    machine
-    (core (saved (m .core .regs .pc) (m .core .regs .sr) k (m .core .cells)) (enteredRegisters k (m .core .regs)))
-    (suc (m .cycles))
-    (m .console)
+entered k m = with-cycles (suc (m .cycles)) (with-core (enteredCore k (m .core)) m)
 
 -- Computer::recover_from_exception, with its cycle: "nothing saved, no cycle" where there is no handler.
 unfoldable pub recover : ℕ → Machine → Outcome
@@ -158,15 +170,18 @@ pub record Run : Type 0 where
   pub steps : ℕ
   pub left : Machine
 
+abbrev pub runs : ℕ → ℕ → ℕ → Machine → Run
+runs n d s m = record { stop = n; detail = d; steps = s; left = m }
+
 -- A run with k steps before it.
 unfoldable pub later : ℕ → Run → Run
-later k r = record { stop = r .stop; detail = r .detail; steps = k + r .steps; left = r .left }
+later k r = runs (r .stop) (r .detail) (k + r .steps) (r .left)
 
 unfoldable pub goOn : Outcome → (Machine → Run) → Run
 goOn (completed m) k = later 1 (k m)
-goOn (stopped n d m) k = record { stop = n; detail = d; steps = 0; left = m }
+goOn (stopped n d m) k = runs n d 0 m
 
 -- "Steps counts completed steps only". "0 is given exactly when steps equals the budget, and no further step is then begun."
 unfoldable pub run : ℕ → Machine → Run
-run zero m = record { stop = BUDGET-SPENT; detail = 0; steps = 0; left = m }
+run zero m = runs BUDGET-SPENT 0 0 m
 run (suc n) m = goOn (step m) (run n)

@@ -2,9 +2,9 @@
 use mathlib.Core.Path.{_≡_}
 use mathlib.Core.Bool.{true, false}
 use mathlib.Core.List.{List, [], _∷_, _++_}
-use Prim.Native.Nat.{ℕ, zero, suc, _<_, _≤_}
-use lib.IntN.{ℤ, pos}
-use Rattle.definition.specs.Constants.{INTERRUPT-PC-SAVE, INTERRUPT-SR-SAVE, INTERRUPT-EXCEPTION, INTERRUPT-HANDLER}
+use Prim.Native.Nat.{ℕ, suc, _<_, _≤_}
+use lib.IntN.{pos}
+use Rattle.definition.specs.Constants.{ROW-A, ROW-PC, ROW-SR, ROW-CYCLES, ROW-ENABLE, ROW-FLAG, ROW-PENDING, ROW-START, ROW-COUNT, ROW-WRITTEN}
 use Rattle.definition.specs.Memory.{word, cellAt, isInstruction}
 use Rattle.definition.specs.Registers.{supervisor}
 use Rattle.definition.specs.Runtime.{Machine, turn, enters, entered, enteredSr}
@@ -18,19 +18,19 @@ Accepted l = passes (runCheck l) ≡ true
 -- a, b, pc, sp and sr": the row's places 1 to 9.
 pub record Alike (l₁ l₂ : Lent) : Type 0 where
   pub cells : l₁ .cells ≡ l₂ .cells
-  pub registers : (i : ℕ) → 1 ≤ i → i ≤ 9 → at i (l₁ .row) ≡ at i (l₂ .row)
-  pub cycles : at 10 (l₁ .row) ≡ at 10 (l₂ .row)
-  pub pending : at 13 (l₁ .row) ≡ at 13 (l₂ .row)
+  pub registers : (i : ℕ) → ROW-A ≤ i → i ≤ ROW-SR → at i (l₁ .row) ≡ at i (l₂ .row)
+  pub cycles : at ROW-CYCLES (l₁ .row) ≡ at ROW-CYCLES (l₂ .row)
+  pub pending : at ROW-PENDING (l₁ .row) ≡ at ROW-PENDING (l₂ .row)
 
 -- The console, pending mark aside: enable, flag, queue start, both counts and every byte of queue and output record.
 pub record SameConsole (l l' : Lent) : Type 0 where
   pub queue : l' .queue ≡ l .queue
   pub output : l' .output ≡ l .output
-  pub enable : at 11 (l' .row) ≡ at 11 (l .row)
-  pub flag : at 12 (l' .row) ≡ at 12 (l .row)
-  pub start : at 14 (l' .row) ≡ at 14 (l .row)
-  pub count : at 15 (l' .row) ≡ at 15 (l .row)
-  pub written : at 16 (l' .row) ≡ at 16 (l .row)
+  pub enable : at ROW-ENABLE (l' .row) ≡ at ROW-ENABLE (l .row)
+  pub flag : at ROW-FLAG (l' .row) ≡ at ROW-FLAG (l .row)
+  pub start : at ROW-START (l' .row) ≡ at ROW-START (l .row)
+  pub count : at ROW-COUNT (l' .row) ≡ at ROW-COUNT (l .row)
+  pub written : at ROW-WRITTEN (l' .row) ≡ at ROW-WRITTEN (l .row)
 
 -- "A list goes no further than the first step that sets S if, at every place in it, the runs before that place and then one on any budget
 -- smaller than the one there leave S clear in the first machine."
@@ -63,7 +63,7 @@ pub record Entry (ns : List ℕ) (l : Lent) : Type 0 where
   pub leaves : lentMachine (calls ns l) ≡ entered code moment
   -- "ends at pc 200, an instruction there, with the pc and status word of the moment of entry in cells 100 and 101, supervisor clear in
   -- that word, and a code 0 to 5 in cell 102"
-  pub pc : at 7 (calls ns l .row) ≡ pos 200
+  pub pc : at ROW-PC (calls ns l .row) ≡ pos 200
   pub handler : isInstruction (cellAt (calls ns l .cells) 200) ≡ true
   pub cell-100 : cellAt (calls ns l .cells) 100 ≡ word (pos (moment .core .regs .pc))
   pub cell-101 : cellAt (calls ns l .cells) 101 ≡ word (moment .core .regs .sr)
@@ -71,9 +71,9 @@ pub record Entry (ns : List ℕ) (l : Lent) : Type 0 where
   pub cell-102 : cellAt (calls ns l .cells) 102 ≡ word (pos code)
   pub small : code ≤ 5
   -- "sr is then the word in cell 101 with S set and, for code 0, I clear"
-  pub sr : at 9 (calls ns l .row) ≡ enteredSr code (cellAt (calls ns l .cells) 101 .first)
+  pub sr : at ROW-SR (calls ns l .row) ≡ enteredSr code (cellAt (calls ns l .cells) 101 .first)
   -- Code 0 took the pending mark.
-  pub taken : code ≡ 0 → at 13 (calls ns l .row) ≡ pos 0
+  pub taken : code ≡ 0 → at ROW-PENDING (calls ns l .row) ≡ pos 0
 
 pub record Whole (l₁ l₂ : Lent) (ns : List ℕ) : Type 0 where
   -- "None of these runs is refused."
@@ -86,8 +86,9 @@ pub record Whole (l₁ l₂ : Lent) (ns : List ℕ) : Type 0 where
   -- "and each console, pending mark aside, is as it was"
   pub console₁ : SameConsole l₁ (calls ns l₁)
   pub console₂ : SameConsole l₂ (calls ns l₂)
-  -- "The step that sets the bit". The second machine is alike, so its cells, registers and pending mark are these.
-  pub entry : lentSupervisor (calls ns l₁) ≡ true → Entry ns l₁
+  -- "The step that sets the bit", in each of the two
+  pub entry₁ : lentSupervisor (calls ns l₁) ≡ true → Entry ns l₁
+  pub entry₂ : lentSupervisor (calls ns l₂) ≡ true → Entry ns l₂
 
 -- "Take two accepted machines with that bit clear, alike in cells, registers, cycles and pending mark, whatever else their consoles hold."
 abbrev pub UserMode : Type 0

@@ -1,4 +1,5 @@
-// The types that the definition and the code share, declared once. No function stands here.
+// The types and the places that the definition and the code share, declared once. No function stands here.
+pub mod places;
 
 // Three numbers (document 01, "Cells and row"): empty is 0,0,0, word w is 1,w,0, an instruction has a tag of 2 or more.
 pub struct Cell {
@@ -68,7 +69,7 @@ pub enum Error {
     Reset,
 }
 
-// The answers of the eight calls. A refusal of 0 says that the call was done; the other fields are 0 where it was refused.
+// The answers of the calls. A refusal of 0 says that the call was done; the other fields are 0 where it was refused.
 #[repr(C)]
 pub struct Done {
     pub refusal: u64,
@@ -91,6 +92,14 @@ pub struct Drained {
     pub count: u64,
 }
 
+// Of the calls that write as much as there is: how much they wrote.
+#[repr(C)]
+pub struct Counted {
+    pub refusal: u64,
+    pub place: u64,
+    pub count: u64,
+}
+
 #[repr(C)]
 pub struct CellRead {
     pub refusal: u64,
@@ -106,11 +115,4 @@ pub struct Raised {
     pub place: u64,
     pub stop: u64,
     pub detail: u64,
-}
-
-#[repr(C)]
-pub struct Counted {
-    pub refusal: u64,
-    pub place: u64,
-    pub count: u64,
 }

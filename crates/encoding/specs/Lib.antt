@@ -1,2 +1,3 @@
 pub mod Table
-pub mod Instr
+pub mod Forms
+pub mod Meaning

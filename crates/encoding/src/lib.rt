@@ -1,5 +1,5 @@
 // "Cells and row": decoding an instruction's tag, its cost, and which cells are damaged.
-pub mod costs;
+pub mod forms;
 
 use arguments::Arg;
 use definition::Cell;
@@ -11,10 +11,9 @@ ghost use lib.Signed.{ltZ};
 ghost use lib.ListN.{length};
 ghost use Rattle.definition.specs.Word.{addressOf};
 ghost use Rattle.definition.specs.Memory.{cellAt};
-ghost use Rattle.definition.specs.Encoding.{legal, cost, decode, registerFits, isAddress, numberFits, soundInstruction, soundAt, sound};
+ghost use Rattle.definition.specs.Encoding.{legal, opNumber, mode₁, mode₂, decode, registerFits, isAddress, numberFits, soundInstruction, soundAt, sound};
 ghost use Rattle.definition.specs.Calls.{lowestDamaged};
-ghost use Rattle.encoding.specs.Table.{costTable};
-ghost use Rattle.encoding.specs.Instr.{instrOf};
+ghost use Rattle.encoding.specs.Meaning.{instrOf};
 
 // An instruction as it is executed.
 pub struct Instr {
@@ -24,29 +23,7 @@ pub struct Instr {
     pub y: Arg,
 }
 
-fn wide(x: u8) -> u64
-    ensures { λ r. ⌜ r ≡ x ⌝ }
-{
-    x as u64
-}
-
-// The entry of op, m1 and m2, where k is op * 36 + m1 * 6 + m2.
-pub fn cost_at(costs: &[u8; 1188], k: usize) -> u64
-    requires { ⌜ (k < 1188) × (now costs ≡ costTable) ⌝ }
-    ensures { λ r. ⌜ r ≡ cost (k / 36) (k / 6 % 6) (k % 6) ⌝ }
-{
-    wide(costs[k])
-}
-
-// "of which 124 are instructions and the rest are 0"
-pub fn is_legal(costs: &[u8; 1188], k: usize) -> bool
-    requires { ⌜ (k < 1188) × (now costs ≡ costTable) ⌝ }
-    ensures { λ r. ⌜ r ≡ legal (k / 36) (k / 6 % 6) (k % 6) ⌝ }
-{
-    0 < cost_at(costs, k)
-}
-
-// The table's place, op * 36 + m1 * 6 + m2, of a tag less 2.
+// The place of a form among the 1,188, op * 36 + m1 * 6 + m2, of a tag less 2.
 // Each step takes a tag apart: here and below a product and a shift, exact for numbers this small, replace a division, which takes about twice the instructions.
 fn place(t: u32) -> u32
     requires { ⌜ t < 29700 ⌝ }
@@ -80,8 +57,8 @@ fn fifth(r: u32) -> u32
 }
 
 // What t, an instruction's tag less 2, says of the instruction.
-pub fn decode(costs: &[u8; 1188], t: u32, first: i64, second: i64) -> Instr
-    requires { ⌜ (t < 29700) × (now costs ≡ costTable) ⌝ }
+pub fn decode(t: u32, first: i64, second: i64) -> Instr
+    requires { ⌜ (t < 29700) × (legal (opNumber t) (mode₁ t) (mode₂ t) ≡ true) ⌝ }
     ensures { λ r. ⌜ (instrOf r ≡ decode t first second) × (r .op < 33) ⌝ }
 {
     let k = place(t);
@@ -89,17 +66,18 @@ pub fn decode(costs: &[u8; 1188], t: u32, first: i64, second: i64) -> Instr
     let op = op_of(k);
     let m = k - 36 * op;
     let m1 = sixth(m);
+    let m2 = m - 6 * m1;
     let r1 = fifth(r);
     Instr {
         op,
-        cost: cost_at(costs, k as usize),
+        cost: forms::cost_of(op, m1, m2),
         x: Arg {
             mode: m1,
             reg: r1,
             number: first,
         },
         y: Arg {
-            mode: m - 6 * m1,
+            mode: m2,
             reg: r - 5 * r1,
             number: second,
         },
@@ -144,15 +122,17 @@ fn operands_fit(m1: u32, m2: u32, r: u32, first: i64, second: i64) -> bool
     false
 }
 
-pub fn sound_instruction(costs: &[u8; 1188], t: u32, first: i64, second: i64) -> bool
-    requires { ⌜ (t < 29700) × (now costs ≡ costTable) ⌝ }
+pub fn sound_instruction(t: u32, first: i64, second: i64) -> bool
+    requires { ⌜ t < 29700 ⌝ }
     ensures { λ r. ⌜ r ≡ soundInstruction t first second ⌝ }
 {
     let k = place(t);
-    let m = k - 36 * op_of(k);
+    let op = op_of(k);
+    let m = k - 36 * op;
     let m1 = sixth(m);
-    if is_legal(costs, k as usize) {
-        return operands_fit(m1, m - 6 * m1, t - 25 * k, first, second);
+    let m2 = m - 6 * m1;
+    if forms::is_legal(op, m1, m2) {
+        return operands_fit(m1, m2, t - 25 * k, first, second);
     }
     false
 }
@@ -169,8 +149,7 @@ fn sound_plain(t: i64, f: i64, s: i64) -> bool
 }
 
 // Empty, a word or an instruction: "Anything else is damaged."
-pub fn sound_cell(costs: &[u8; 1188], v: Cell) -> bool
-    requires { ⌜ now costs ≡ costTable ⌝ }
+pub fn is_sound(v: Cell) -> bool
     ensures { λ r. ⌜ r ≡ sound v ⌝ }
 {
     let t = v.tag;
@@ -180,7 +159,7 @@ pub fn sound_cell(costs: &[u8; 1188], v: Cell) -> bool
         return sound_plain(t, f, s);
     }
     if t < 29702 {
-        return sound_instruction(costs, (t as u32) - 2, f, s);
+        return sound_instruction((t as u32) - 2, f, s);
     }
     false
 }
@@ -197,41 +176,18 @@ pub fn cell_at(cells: &[i64], n: usize) -> Cell
     }
 }
 
-// `lowest_damaged` by a table that is lent.
-fn lowest_damaged_by(costs: &[u8; 1188], cells: &[i64]) -> usize
-    requires { ⌜ now costs ≡ costTable ⌝ }
+// The lowest address of a damaged cell, or else the address past the last cell.
+pub fn lowest_damaged(cells: &[i64]) -> usize
     ensures { λ r. ⌜ r ≡ lowestDamaged 0 (now (cells .entry)) ⌝ }
 {
     let count = cells.len() / 3;
     let mut n: usize = 0;
     while n < count {
-        if sound_cell(costs, cell_at(cells, n)) {
+        if is_sound(cell_at(cells, n)) {
             n += 1;
         } else {
             return n;
         }
     }
     n
-}
-
-// The lowest address of a damaged cell, or else the address past the last cell. It names the table, so that its callers need not: the table's code is there once.
-pub fn lowest_damaged(cells: &[i64]) -> usize
-    ensures { λ r. ⌜ r ≡ lowestDamaged 0 (now (cells .entry)) ⌝ }
-{
-    let costs = &costs::COSTS;
-    lowest_damaged_by(costs, cells)
-}
-
-// One cell's soundness, with no table lent. An empty cell or a word, as registers mostly hold, does not wait for the table to be built.
-pub fn is_sound(v: Cell) -> bool
-    ensures { λ r. ⌜ r ≡ sound v ⌝ }
-{
-    let t = v.tag;
-    let f = v.first;
-    let s = v.second;
-    if t < 2 {
-        return sound_plain(t, f, s);
-    }
-    let cells = [t, f, s];
-    lowest_damaged(&cells) == 1
 }

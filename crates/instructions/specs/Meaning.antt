@@ -6,7 +6,7 @@ use Rattle.definition.specs.declared.Error.the-variants.{CellError, InvalidMemo
 use Rattle.definition.specs.Constants.{INTERRUPT-SR-SAVE}
 use Rattle.definition.specs.Memory.{extractWord}
 use Rattle.definition.specs.Registers.{with-sr}
-use Rattle.definition.specs.Computer.{Exec, andThen, _>>=_, _>>_, change, orWord, read}
+use Rattle.definition.specs.Exec.{Exec, andThen, _>>=_, _>>_, change, orWord, read}
 
 -- The operations that ask the console: in and out.
 abbrev pub asker : ℕ → Bool

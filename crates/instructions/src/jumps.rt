@@ -1,8 +1,8 @@
 // The jumps, and reset, which leaves pc on itself.
 use arguments::Arg;
+use arguments::taken::AddressTaken;
 use definition::Error;
 use definition::Registers;
-use definition::Word;
 use registers::Put;
 ghost use mathlib.Core.Path.{_≡_};
 ghost use mathlib.Core.List.{List};
@@ -10,10 +10,12 @@ ghost use Prim.Native.Nat.{_-_};
 ghost use lib.IntN.{ℤ};
 ghost use Rattle.definition.specs.Constants.{ZERO, NEGATIVE};
 ghost use Rattle.definition.specs.Word.{bit};
-ghost use Rattle.definition.specs.Computer.{core, branch, return};
+ghost use Rattle.definition.specs.Registers.{with-pc};
+ghost use Rattle.definition.specs.Exec.{core, andThen, branch, return, change};
 ghost use Rattle.definition.specs.Instructions.{jump, reset};
-ghost use Rattle.registers.specs.Answer.{putRes};
-ghost use Rattle.arguments.specs.By.{argOf};
+ghost use Rattle.registers.specs.Meaning.{putRes};
+ghost use Rattle.arguments.specs.Operands.{argOf};
+ghost use Rattle.arguments.specs.Taken.{addressRes};
 ghost use Rattle.instructions.specs.Jumps.{testAt};
 
 pub fn zero(s: Registers) -> bool
@@ -43,22 +45,25 @@ pub fn is_taken(op: u32, z: bool, n: bool) -> bool
     }
 }
 
-// A jump, where its test holds: "A conditional jump not taken never reads its operand." One function for the seven, so that it is
-// called in one place and is inlined there. The word is tested here: an Address would be packed and unpacked at each jump.
+// pc set to what was taken.
+pub fn jump_to(target: AddressTaken) -> Put
+    ensures { λ q. ⌜ ((l : List ℤ) → putRes l q ≡ andThen (addressRes l target) (λ n. change (with-pc n))) ⌝ }
+{
+    let mut s = target.s;
+    if target.ok {
+        s.pc = target.value;
+        return registers::accept(s);
+    }
+    let error = target.error;
+    registers::refuse(s, error)
+}
+
+// A jump, where its test holds: "A conditional jump not taken never reads its operand."
 pub fn jump_if(cells: &[i64], s: Registers, test: bool, x: Arg) -> Put
     ensures { λ q. ⌜ putRes (now (cells .entry)) q ≡ branch test (jump (argOf x)) (return tt) (core (now (cells .entry)) s) ⌝ }
 {
     if test {
-        match arguments::operand_word(cells, registers::get_reg(s, x.reg), x.mode, x.number) {
-            Word::Is(w) => if (0 <= w) & (w <= 4294967295) {
-                let mut t = s;
-                t.pc = w as u32;
-                registers::accept(t)
-            } else {
-                registers::refuse(s, Error::Extract)
-            },
-            Word::NotWord => registers::refuse(s, Error::Extract),
-        }
+        jump_to(arguments::target_of(cells, s, x))
     } else {
         registers::accept(s)
     }

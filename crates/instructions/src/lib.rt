@@ -1,35 +1,34 @@
 // instructions.rs: Instruction::execute, and the two requests to the console.
 use arguments::Arg;
-use definition::Address;
 use definition::Error;
 use definition::Registers;
-use definition::Word;
 use stores::Made;
 ghost use mathlib.Core.Path.{_≡_};
 ghost use mathlib.Core.Bool.{false};
 ghost use mathlib.Core.List.{List};
 ghost use Prim.Native.Nat.{_≤_, _<_};
-ghost use lib.IntN.{ℤ};
+ghost use lib.IntN.{ℤ, pos};
 ghost use Rattle.definition.specs.Constants.{CELLS-MOST};
 ghost use Rattle.definition.specs.Memory.{cellCount};
 ghost use Rattle.definition.specs.Registers.{regAt};
-ghost use Rattle.definition.specs.Computer.{core};
+ghost use Rattle.definition.specs.Exec.{core};
 ghost use Rattle.definition.specs.Encoding.{opAt};
 ghost use Rattle.definition.specs.Instructions.{execute, nothing, reads, writes, inOp, outOp};
-ghost use Rattle.registers.specs.Answer.{result};
-ghost use Rattle.arguments.specs.By.{argOf};
-ghost use Rattle.stores.specs.Plan.{made};
+ghost use Rattle.registers.specs.Meaning.{result};
+ghost use Rattle.arguments.specs.Operands.{argOf};
+ghost use Rattle.stores.specs.Meaning.{made};
 ghost use Rattle.instructions.specs.Meaning.{asker};
 
 pub mod jumps;
 pub mod moves;
 
-// What `in` and `out` ask of the console: the port, and the word to write there (for `in` it is 0).
+// What `in` and `out` ask of the console: the port, and the word to write there (for `in` it is 0); and the registers as they are left.
 pub struct Asked {
     pub ok: bool,
     pub error: Error,
     pub port: u32,
     pub w: i64,
+    pub s: Registers,
 }
 
 // Does the operation ask the console: in and out?
@@ -79,72 +78,58 @@ pub fn execute(cells: &[i64], s: Registers, op: u32, x: Arg, y: Arg) -> Made
     }
 }
 
+fn not_asked(s: Registers, error: Error) -> Asked
+    ensures { λ q. ⌜ q ≡ record { ok = false; error = error; port = 0; w = pos 0; s = s } ⌝ }
+{
+    Asked {
+        ok: false,
+        error,
+        port: 0,
+        w: 0,
+        s,
+    }
+}
+
 // in: the port is known, what is read there is the console's.
 pub fn in_request(s: Registers, x: Arg, r: u32) -> Asked
-    ensures { λ q. ⌜ ((l : List ℤ) → result (reads (q .port) (regAt r)) (q .ok) (q .error) (core l s) ≡ inOp (argOf x) (regAt r) (core l s)) ⌝ }
+    ensures { λ q. ⌜ ((l : List ℤ) → result (reads (q .port) (regAt r)) (q .ok) (q .error) (core l (q .s)) ≡ inOp (argOf x) (regAt r) (core l s)) ⌝ }
 {
     if registers::supervisor(s) {
-        match arguments::resolve(registers::get_reg(s, x.reg), x.mode, x.number) {
-            Address::At(n) => Asked {
-                ok: true,
-                error: Error::Reset,
-                port: n,
-                w: 0,
-            },
-            Address::NotAddress => Asked {
-                ok: false,
-                error: Error::CellError,
-                port: 0,
-                w: 0,
-            },
-        }
-    } else {
-        Asked {
-            ok: false,
-            error: Error::PrivilegedInstruction,
-            port: 0,
+        let port = arguments::address_of(s, x);
+        let error = port.error;
+        let t = port.s;
+        return Asked {
+            ok: port.ok,
+            error,
+            port: port.value,
             w: 0,
-        }
+            s: t,
+        };
     }
+    not_asked(s, Error::PrivilegedInstruction)
 }
 
 // out: the word, then the port.
 pub fn out_request(cells: &[i64], s: Registers, x: Arg, y: Arg) -> Asked
-    ensures { λ q. ⌜ result (writes (q .port) (q .w)) (q .ok) (q .error) (core (now (cells .entry)) s) ≡ outOp (argOf x) (argOf y) (core (now (cells .entry)) s) ⌝ }
+    ensures { λ q. ⌜ result (writes (q .port) (q .w)) (q .ok) (q .error) (core (now (cells .entry)) (q .s)) ≡ outOp (argOf x) (argOf y) (core (now (cells .entry)) s) ⌝ }
 {
     if registers::supervisor(s) {
-        match arguments::operand_word(cells, registers::get_reg(s, x.reg), x.mode, x.number) {
-            Word::Is(w) => match arguments::resolve(
-                registers::get_reg(s, y.reg),
-                y.mode,
-                y.number,
-            ) {
-                Address::At(n) => Asked {
-                    ok: true,
-                    error: Error::Reset,
-                    port: n,
-                    w,
-                },
-                Address::NotAddress => Asked {
-                    ok: false,
-                    error: Error::CellError,
-                    port: 0,
-                    w: 0,
-                },
-            },
-            Word::NotWord => Asked {
-                ok: false,
-                error: Error::Extract,
-                port: 0,
-                w: 0,
-            },
+        let given = arguments::word_of(cells, s, x);
+        let t = given.s;
+        if given.ok {
+            let port = arguments::address_of(t, y);
+            let error = port.error;
+            let u = port.s;
+            return Asked {
+                ok: port.ok,
+                error,
+                port: port.value,
+                w: given.value,
+                s: u,
+            };
         }
-    } else {
-        Asked {
-            ok: false,
-            error: Error::PrivilegedInstruction,
-            port: 0,
-            w: 0,
-        }
+        let error = given.error;
+        return not_asked(t, error);
     }
+    not_asked(s, Error::PrivilegedInstruction)
 }

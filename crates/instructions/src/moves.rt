@@ -1,83 +1,109 @@
 // The instructions that read cells into registers.
 use arguments::Arg;
-use definition::Address;
+use arguments::taken;
+use arguments::taken::CellTaken;
 use definition::Error;
-use definition::Found;
 use definition::Registers;
-use definition::Word;
 use registers::Put;
 ghost use mathlib.Core.Path.{_≡_};
 ghost use Prim.Native.Nat.{_≤_};
 ghost use Rattle.definition.specs.Constants.{CELLS-MOST};
 ghost use Rattle.definition.specs.Memory.{cellCount};
 ghost use Rattle.definition.specs.Registers.{regAt};
-ghost use Rattle.definition.specs.Computer.{core};
+ghost use Rattle.definition.specs.Exec.{core, pop};
 ghost use Rattle.definition.specs.Instructions.{ld, popOp, rtn, rti};
-ghost use Rattle.registers.specs.Answer.{putRes};
-ghost use Rattle.arguments.specs.By.{argOf};
+ghost use Rattle.registers.specs.Meaning.{putRes};
+ghost use Rattle.arguments.specs.Operands.{argOf};
+ghost use Rattle.arguments.specs.Taken.{tookCell};
 ghost use Rattle.instructions.specs.Meaning.{rtiSr};
 
 pub fn ld(cells: &[i64], s: Registers, x: Arg, r: u32) -> Put
     ensures { λ q. ⌜ putRes (now (cells .entry)) q ≡ ld (argOf x) (regAt r) (core (now (cells .entry)) s) ⌝ }
 {
-    match arguments::extract_cell(cells, registers::get_reg(s, x.reg), x.mode, x.number) {
-        Found::Here(v) => registers::put_reg(s, r, v),
-        Found::Outside => registers::refuse(s, Error::Extract),
+    let given = arguments::cell_of(cells, s, x);
+    let t = given.s;
+    if given.ok {
+        let v = given.value;
+        return registers::put_reg(t, r, v);
     }
+    let error = given.error;
+    registers::refuse(t, error)
 }
 
-// "pop and rtn read at sp (outside: code 5, sp unmoved), then move sp, and only then test the value or set the register."
+// Computer::pop: "pop and rtn read at sp (outside: code 5, sp unmoved), then move sp, and only then test the value or set the register."
+fn pop_cell(cells: &[i64], s: Registers) -> CellTaken
+    requires { do ⌜ cellCount (now cells) ≤ CELLS-MOST ⌝ }
+    ensures { λ t. ⌜ t ≡ tookCell (pop (core (now (cells .entry)) s)) ⌝ }
+{
+    let sp = s.sp;
+    let top = arguments::read(cells, s, sp);
+    if top.ok {
+        let value = top.value;
+        let mut t = top.s;
+        t.sp = sp + 1;
+        return CellTaken {
+            ok: true,
+            error: Error::Reset,
+            value,
+            s: t,
+        };
+    }
+    top
+}
+
 pub fn pop(cells: &[i64], s: Registers, r: u32) -> Put
     requires { do ⌜ cellCount (now cells) ≤ CELLS-MOST ⌝ }
     ensures { λ q. ⌜ putRes (now (cells .entry)) q ≡ popOp (regAt r) (core (now (cells .entry)) s) ⌝ }
 {
-    match memory::get(cells, s.sp) {
-        Found::Here(v) => {
-            let mut t = s;
-            t.sp = s.sp + 1;
-            registers::put_reg(t, r, v)
+    let top = pop_cell(cells, s);
+    let t = top.s;
+    if top.ok {
+        let v = top.value;
+        let q = registers::put_reg(t, r, v);
+        if q.ok {
+            return q;
         }
-        Found::Outside => registers::refuse(s, Error::InvalidMemoryAccess),
+        let refused = q.error;
+        return registers::refuse(t, refused);
     }
+    let error = top.error;
+    registers::refuse(t, error)
 }
 
 pub fn rtn(cells: &[i64], s: Registers) -> Put
     requires { do ⌜ cellCount (now cells) ≤ CELLS-MOST ⌝ }
     ensures { λ q. ⌜ putRes (now (cells .entry)) q ≡ rtn (core (now (cells .entry)) s) ⌝ }
 {
-    match memory::get(cells, s.sp) {
-        Found::Here(v) => {
-            let mut t = s;
-            t.sp = s.sp + 1;
-            match memory::extract_word(v) {
-                Word::Is(w) => if (0 <= w) & (w <= 4294967295) {
-                    t.pc = w as u32;
-                    registers::accept(t)
-                } else {
-                    registers::refuse(t, Error::CellError)
-                },
-                Word::NotWord => registers::refuse(t, Error::CellError),
-            }
-        }
-        Found::Outside => registers::refuse(s, Error::InvalidMemoryAccess),
+    let top = pop_cell(cells, s);
+    let t = top.s;
+    if top.ok {
+        let v = top.value;
+        let target = taken::or_address(t, memory::extract_address(v), Error::CellError);
+        return super::jumps::jump_to(target);
     }
+    let error = top.error;
+    registers::refuse(t, error)
 }
 
 // The second half of rti: sr from cell 101.
 pub fn rti_sr(cells: &[i64], s: Registers) -> Put
     ensures { λ q. ⌜ putRes (now (cells .entry)) q ≡ rtiSr (core (now (cells .entry)) s) ⌝ }
 {
-    match memory::get(cells, 101) {
-        Found::Here(v) => match memory::extract_word(v) {
-            Word::Is(w) => {
-                let mut t = s;
-                t.sr = w;
-                registers::accept(t)
-            }
-            Word::NotWord => registers::refuse(s, Error::CellError),
-        },
-        Found::Outside => registers::refuse(s, Error::InvalidMemoryAccess),
+    let saved = arguments::read(cells, s, 101);
+    let t = saved.s;
+    if saved.ok {
+        let v = saved.value;
+        let given = taken::or_word(t, memory::extract_word(v), Error::CellError);
+        let mut u = given.s;
+        if given.ok {
+            u.sr = given.value;
+            return registers::accept(u);
+        }
+        let error = given.error;
+        return registers::refuse(u, error);
     }
+    let error = saved.error;
+    registers::refuse(t, error)
 }
 
 // "rti sets pc before it reads cell 101."
@@ -85,18 +111,21 @@ pub fn rti(cells: &[i64], s: Registers) -> Put
     ensures { λ q. ⌜ putRes (now (cells .entry)) q ≡ rti (core (now (cells .entry)) s) ⌝ }
 {
     if registers::supervisor(s) {
-        match memory::get(cells, 100) {
-            Found::Here(v) => match memory::extract_address(v) {
-                Address::At(n) => {
-                    let mut t = s;
-                    t.pc = n;
-                    rti_sr(cells, t)
-                }
-                Address::NotAddress => registers::refuse(s, Error::CellError),
-            },
-            Found::Outside => registers::refuse(s, Error::InvalidMemoryAccess),
+        let saved = arguments::read(cells, s, 100);
+        let t = saved.s;
+        if saved.ok {
+            let v = saved.value;
+            let target = taken::or_address(t, memory::extract_address(v), Error::CellError);
+            let mut u = target.s;
+            if target.ok {
+                u.pc = target.value;
+                return rti_sr(cells, u);
+            }
+            let error = target.error;
+            return registers::refuse(u, error);
         }
-    } else {
-        registers::refuse(s, Error::PrivilegedInstruction)
+        let error = saved.error;
+        return registers::refuse(t, error);
     }
+    registers::refuse(s, Error::PrivilegedInstruction)
 }

@@ -1,20 +1,24 @@
 -- How the reader's definition moves. Assumes nothing.
-use mathlib.Core.Path.{_≡_, refl}
-use mathlib.Core.Bool.{Bool, true, false, false≢true, _&&_}
+use mathlib.Core.Path.{_≡_, refl, ap, _∙_}
+use mathlib.Core.Bool.{Bool, true, false, _&&_}
 use Prim.Native.Nat.{ℕ, zero, suc, _+_, _≤_, _<_}
 use mathlib.Core.List.{List, foldl}
 use native.Mathlib.Omega.{arith}
 use native.Mathlib.Numerals.{add-one}
-use lib.ListN.{length, drop, getD}
+use lib.ListN.{length, drop, getD, replicate}
 use lib.Seq.{drop-cons, drop-length}
-use lib.IntN.{ℤ, pos, negsuc, natAbs}
+use lib.IntN.{ℤ, pos, natAbs}
 use lib.Dec.{eqb}
-use borrow.Author.Tests.{ltb-true, eq-eqb, ne-eqb}
+use borrow.Author.Tests.{eq-eqb, ne-eqb}
 use Rattle.definition.specs.Memory.{putCell}
 use Rattle.definition.specs.Encoding.{sound}
 use Rattle.definition.specs.Calls.{isBelow}
 use Rattle.lines.specs.declared.Reader.{Reader}
-use Rattle.lines.specs.Reader.{letter, limit, State, state, step, broken, next, startLine, lineCell, cellLine, lineEnd}
+use Rattle.lines.specs.Reader.{emptyCells, letter, limit, State, state, step, broken, next, startLine, lineCell, cellLine, lineEnd}
+
+-- cells that all hold one number, which is 0
+pub all-zero : {l : List ℤ} → getD l 0 (pos 0) ≡ pos 0 → l ≡ replicate 6144 (getD l 0 (pos 0)) → l ≡ emptyCells
+all-zero z e = e ∙ ap (replicate 6144) z
 
 -- past the fifth letter stands the comma
 pub letter-last : (i : ℕ) → (i ≡ 0 → ⊥) → (i ≡ 1 → ⊥) → (i ≡ 2 → ⊥) → (i ≡ 3 → ⊥) → (i ≡ 4 → ⊥) → letter i ≡ 44
@@ -37,11 +41,6 @@ fold-more t i s u h e = rw (add-one, drop-cons t i 0 h, e)
 
 pub fold-end : (t : List ℕ) (i : ℕ) (s : State) → i ≡ length t → s ≡ foldl step s (drop i t)
 fold-end t i s e = rw (e, drop-length)
-
-pub below-in : (n : ℕ) (z : ℤ) → isBelow n z ≡ true → natAbs z < n
-unfolding isBelow
-below-in n (pos k) e = ltb-true k n e
-below-in n (negsuc k) e = absurd (false≢true e)
 
 -- the ends of a line
 module _ (r : Reader) (l : List ℤ) where

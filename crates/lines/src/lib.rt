@@ -4,7 +4,8 @@ pub mod part;
 
 ghost use mathlib.Core.Path.{_≡_};
 ghost use Prim.Native.Nat.{_<_};
-ghost use Rattle.lines.specs.Reader.{opened, limit, valueOf, broken, withField, letter, openingByte, digit, comma, minus, within, brokenLine};
+ghost use lib.ListN.{length};
+ghost use Rattle.lines.specs.Reader.{opened, emptyCells, limit, valueOf, broken, withField, letter, openingByte, digit, comma, minus, within, brokenLine};
 
 // The field that is being read: an optional minus and the digits so far.
 pub struct Field {
@@ -59,6 +60,14 @@ pub fn open() -> Reader
             sr: 0,
         },
     }
+}
+
+// The cells before the first byte. The length is what lending them as a slice needs.
+pub fn empty_cells() -> [i64; 6144]
+    ensures { λ r. ⌜ r ≡ emptyCells ⌝ }
+    ensures { λ r. ⌜ 6144 ≡ length r ⌝ }
+{
+    [0; 6144]
 }
 
 pub fn break_line(r: Reader) -> Reader

@@ -7,7 +7,6 @@ use super::value_of;
 use definition::Cell;
 ghost use mathlib.Core.Path.{_≡_};
 ghost use lib.ListN.{length};
-ghost use Rattle.encoding.specs.Table.{costTable};
 ghost use Rattle.lines.specs.Reader.{following, next, started, state, startLine, lineCell, cellLine, lineEnd, step};
 
 pub fn following_line(n: u64) -> u64
@@ -66,15 +65,15 @@ pub fn line_cell(r: Reader) -> Cell
 }
 
 // "addresses below 2,048", "each cell sound", "a later line over an earlier one"
-pub fn take_cell(cells: &mut [i64], costs: &[u8; 1188], r: Reader) -> Reader
-    requires { ⌜ (length (now cells) ≡ 6144) × (now costs ≡ costTable) ⌝ }
+pub fn take_cell(cells: &mut [i64], r: Reader) -> Reader
+    requires { ⌜ length (now cells) ≡ 6144 ⌝ }
     ensures { λ q. ⌜ state q (now (cells .exit)) ≡ cellLine (state r (now (cells .entry))) ⌝ }
 {
     let l = r.last;
     let x = l.x;
     let v = line_cell(r);
     if checks::is_below(x, 2048) {
-        if encoding::sound_cell(costs, v) {
+        if encoding::is_sound(v) {
             let n = word::magnitude(x);
             memory::put_cell(cells, n as usize, v);
             return next_line(r);
@@ -85,8 +84,8 @@ pub fn take_cell(cells: &mut [i64], costs: &[u8; 1188], r: Reader) -> Reader
 }
 
 // "each with a line end"
-pub fn take_line_end(cells: &mut [i64], costs: &[u8; 1188], r: Reader) -> Reader
-    requires { ⌜ (length (now cells) ≡ 6144) × (now costs ≡ costTable) ⌝ }
+pub fn take_line_end(cells: &mut [i64], r: Reader) -> Reader
+    requires { ⌜ length (now cells) ≡ 6144 ⌝ }
     ensures { λ q. ⌜ state q (now (cells .exit)) ≡ lineEnd (state r (now (cells .entry))) ⌝ }
 {
     let f = r.field;
@@ -97,7 +96,7 @@ pub fn take_line_end(cells: &mut [i64], costs: &[u8; 1188], r: Reader) -> Reader
         if r.line == 1 {
             return take_start(r);
         }
-        return take_cell(cells, costs, r);
+        return take_cell(cells, r);
     }
     break_line(r)
 }

@@ -5,15 +5,14 @@ use super::take_within;
 ghost use mathlib.Core.Path.{_≡_};
 ghost use mathlib.Core.List.{foldl};
 ghost use lib.ListN.{length};
-ghost use Rattle.encoding.specs.Table.{costTable};
 ghost use Rattle.lines.specs.Reader.{state, step};
 
-pub fn take_byte(cells: &mut [i64], costs: &[u8; 1188], r: Reader, b: u8) -> Reader
-    requires { ⌜ (length (now cells) ≡ 6144) × (now costs ≡ costTable) ⌝ }
+pub fn take_byte(cells: &mut [i64], r: Reader, b: u8) -> Reader
+    requires { ⌜ length (now cells) ≡ 6144 ⌝ }
     ensures { λ q. ⌜ state q (now (cells .exit)) ≡ step (state r (now (cells .entry))) b ⌝ }
 {
     if b == 10 {
-        return take_line_end(cells, costs, r);
+        return take_line_end(cells, r);
     }
     take_within(r, b)
 }
@@ -23,12 +22,11 @@ pub fn take_part(cells: &mut [i64], r: Reader, part: &[u8]) -> Reader
     requires { ⌜ length (now cells) ≡ 6144 ⌝ }
     ensures { λ q. ⌜ state q (now (cells .exit)) ≡ foldl step (state r (now (cells .entry))) (now (part .entry)) ⌝ }
 {
-    let costs = &encoding::costs::COSTS;
     let mut q = r;
     let mut i: usize = 0;
     while i < part.len() {
         let b = part[i];
-        q = take_byte(cells, costs, q, b);
+        q = take_byte(cells, q, b);
         i += 1;
     }
     q

@@ -2,12 +2,11 @@
 use mathlib.Core.Path.{_≡_, refl, sym, ap, _∙_}
 use mathlib.Core.Bool.{Bool, true, false, cond, true≢false}
 use mathlib.Core.List.{List}
-use Prim.Native.Nat.{ℕ, zero, suc, _+_, _*_, _<_, _≤_}
+use Prim.Native.Nat.{ℕ, zero, suc, _<_, _≤_}
 use native.Mathlib.Omega.{arith}
 use lib.IntN.{ℤ, pos, negsuc}
 use lib.Dec.{ltb}
-use lib.ListN.{length, set, length-set}
-use lib.Seq.{getD-set-same, getD-set-other}
+use lib.ListN.{length}
 use lib.Signed.{ltZ}
 use mir.Syntax.{w64}
 use mir.Val.{SFits, toZ, ofZ}
@@ -16,14 +15,10 @@ use borrow.Author.Tests.{ltb-true, lt-ltb, le-ltb}
 use Rattle.definition.specs.declared.Cell.{Cell}
 use Rattle.definition.specs.declared.Word.the-variants.{Is, NotWord}
 use Rattle.definition.specs.declared.Found.the-variants.{Here, Outside}
-use Rattle.definition.specs.Memory.{cellCount, cellAt, putCell, get, found, wordAt, asAddress}
-use Rattle.definition.specs.Word.{addressOf}
-use Rattle.definition.specs.declared.Address.the-variants.{NotAddress}
-use Rattle.memory.specs.Overlay.{overlay}
-
-pub length-put : (l : List ℤ) (n : ℕ) (v : Cell) → length (putCell l n v) ≡ length l
-unfolding putCell
-length-put l n v = simp length-set
+use Rattle.definition.specs.Memory.{cellCount, cellAt, putCell, get, found, wordAt}
+use Rattle.definition.specs.Constants.{CELLS-MOST}
+use Rattle.definition.proofs.Cells.{length-put, cell-same, cell-other}
+use Rattle.memory.specs.Overlay.{overlay, NO-CELL}
 
 pub get-in : (l : List ℤ) (n : ℕ) → n < cellCount l → get l n ≡ Here (cellAt l n)
 unfolding get found
@@ -41,34 +36,6 @@ get-here l n v h = go (ltb n (cellCount l)) h
     go : (b : Bool) → found b (cellAt l n) ≡ Here v → b ≡ true
     go true h = refl
     go false h = let z : _≡_ {A = ℕ} 0 1 = cc in absurd (omega arith)
-
-pub at-put : (l : List ℤ) (n : ℕ) (v : Cell) → n < cellCount l → cellAt (putCell l n v) n ≡ v
-unfolding cellAt putCell
-at-put l n v h =
-    let h₀ : 3 * n < length l = omega arith in
-    let h₁ : 3 * n + 1 < length l = omega arith in
-    let h₂ : 3 * n + 2 < length l = omega arith in
-    let k₁ : 3 * n < length (set l (3 * n) (v .tag)) = simp length-set h₀ in
-    let k₂ : 3 * n + 1 < length (set l (3 * n) (v .tag)) = simp length-set h₁ in
-    let k₃ : 3 * n + 2 < length (set (set l (3 * n) (v .tag)) (3 * n + 1) (v .first)) = simp length-set h₂ in
-    let n₁ : 3 * n ≡ 3 * n + 2 → ⊥ = λ e. omega arith in
-    let n₂ : 3 * n ≡ 3 * n + 1 → ⊥ = λ e. omega arith in
-    let n₃ : 3 * n + 1 ≡ 3 * n + 2 → ⊥ = λ e. omega arith in
-    simp (getD-set-other, getD-set-same)
-
-pub at-put-other : (l : List ℤ) (m n : ℕ) (v : Cell) → (m ≡ n → ⊥) → cellAt (putCell l m v) n ≡ cellAt l n
-unfolding cellAt putCell
-at-put-other l m n v h =
-    let a₀ : 3 * n ≡ 3 * m → ⊥ = λ e. h (omega arith) in
-    let a₁ : 3 * n ≡ 3 * m + 1 → ⊥ = λ e. omega arith in
-    let a₂ : 3 * n ≡ 3 * m + 2 → ⊥ = λ e. omega arith in
-    let b₀ : 3 * n + 1 ≡ 3 * m → ⊥ = λ e. omega arith in
-    let b₁ : 3 * n + 1 ≡ 3 * m + 1 → ⊥ = λ e. h (omega arith) in
-    let b₂ : 3 * n + 1 ≡ 3 * m + 2 → ⊥ = λ e. omega arith in
-    let c₀ : 3 * n + 2 ≡ 3 * m → ⊥ = λ e. omega arith in
-    let c₁ : 3 * n + 2 ≡ 3 * m + 1 → ⊥ = λ e. omega arith in
-    let c₂ : 3 * n + 2 ≡ 3 * m + 2 → ⊥ = λ e. h (omega arith) in
-    simp getD-set-other
 
 -- ---- the write that waits
 
@@ -90,7 +57,7 @@ module _ (l : List ℤ) (n : ℕ) (v : Cell) where
       go false = refl
 
   pub over-same : n < cellCount l → get (overlay n v l) n ≡ Here v
-  over-same h = ap (λ (x : List ℤ). get x n) (over-in h) ∙ get-in (putCell l n v) n (omega (arith, length-put l n v)) ∙ ap Here (at-put l n v h)
+  over-same h = ap (λ (x : List ℤ). get x n) (over-in h) ∙ get-in (putCell l n v) n (omega (arith, length-put l n v)) ∙ ap Here (cell-same l n v h)
 
   pub over-out : cellCount l ≤ n → get (overlay n v l) n ≡ Outside
   over-out h = ap (λ (x : List ℤ). get x n) (over-none h) ∙ get-out l n h
@@ -100,8 +67,11 @@ module _ (l : List ℤ) (n : ℕ) (v : Cell) where
   over-other m h = go (ltb n (cellCount l))
     where
       go : (b : Bool) → get (cond b (putCell l n v) l) m ≡ get l m
-      go true = rw (length-put l n v, at-put-other l n m v h)
+      go true = rw (length-put l n v, cell-other l n m v (λ e. h (sym e)))
       go false = refl
+
+pub over-no-cell : (l : List ℤ) (v : Cell) → cellCount l ≤ CELLS-MOST → overlay NO-CELL v l ≡ l
+over-no-cell l v h = over-none l NO-CELL v (omega arith)
 
 -- ---- words
 
@@ -126,12 +96,3 @@ word-high t f ft h = go t (rw (toZ-ofZ ft) at h)
     go (pos (suc zero)) h = absurd (true≢false h)
     go (pos (suc (suc k))) h = unfold wordAt in refl
     go (negsuc k) h = absurd (true≢false h)
-
--- asAddress, case by case
-pub as-is : (w : ℤ) → asAddress (Is w) ≡ addressOf w
-unfolding asAddress
-as-is w = refl
-
-pub as-not : asAddress NotWord ≡ NotAddress
-unfolding asAddress
-as-not = refl

@@ -7,6 +7,10 @@ use lib.Dec.{ltb}
 use Rattle.definition.specs.declared.Cell.{Cell}
 use Rattle.definition.specs.Memory.{cellCount, putCell}
 
+-- The address that stands for no write: no list has so many cells.
+abbrev pub NO-CELL : ℕ
+NO-CELL = 4294967295
+
 -- An address outside writes nothing, so that one address can stand for no write.
 unfoldable pub overlay : ℕ → Cell → List ℤ → List ℤ
 overlay n v l = cond (ltb n (cellCount l)) (putCell l n v) l

@@ -6,8 +6,11 @@ use definition::Word;
 ghost use mathlib.Core.Path.{_≡_};
 ghost use Prim.Native.Nat.{_<_};
 ghost use lib.IntN.{pos};
-ghost use Rattle.definition.specs.Memory.{cellCount, cellAt, putCell, get, wordAt, extractWord, extractAddress, isInstruction, word as wordCell};
+ghost use Rattle.definition.specs.Memory.{cellCount, cellAt, putCell, get, wordAt, extractWord, asAddress, extractAddress, isInstruction, word as wordCell};
 ghost use Rattle.memory.specs.Overlay.{overlay};
+
+// The address of no cell: no list has so many, so that a write there writes nothing.
+pub const NO_CELL: u32 = 4294967295;
 
 pub fn get_cell(cells: &[i64], n: usize) -> Cell
     requires { do ⌜ n < cellCount (now cells) ⌝ }
@@ -80,14 +83,20 @@ pub fn extract_word(v: Cell) -> Word
     word_from(v.tag, v.first)
 }
 
+pub fn as_address(w: Word) -> Address
+    ensures { λ r. ⌜ r ≡ asAddress w ⌝ }
+{
+    match w {
+        Word::Is(w) => word::to_address(w),
+        Word::NotWord => Address::NotAddress,
+    }
+}
+
 // Cell::extract_address
 pub fn extract_address(v: Cell) -> Address
     ensures { λ r. ⌜ r ≡ extractAddress v ⌝ }
 {
-    match extract_word(v) {
-        Word::Is(w) => word::to_address(w),
-        Word::NotWord => Address::NotAddress,
-    }
+    as_address(extract_word(v))
 }
 
 pub fn is_instruction(v: Cell) -> bool

@@ -1,28 +1,26 @@
 -- The instructions of words, by what their operands gave.
-use mathlib.Core.Path.{_≡_, refl, sym, ap, _∙_}
-use mathlib.Core.Bool.{true, false, true≢false}
+use mathlib.Core.Path.{_≡_, refl, sym, ap, _∙_, subst}
+use mathlib.Core.Bool.{Bool, true, false, true≢false}
 use mathlib.Core.List.{List}
 use Prim.Native.Nat.{ℕ}
-use lib.IntN.{ℤ, negℤ, natAbs}
+use lib.IntN.{ℤ, natAbs}
 use Rattle.definition.specs.declared.Registers.{Registers}
-use Rattle.definition.specs.declared.Word.{Word}
-use Rattle.definition.specs.declared.Word.the-variants.{Is, NotWord}
-use Rattle.definition.specs.declared.Error.the-variants.{Extract, InvalidInstruction}
-use Rattle.definition.specs.Word.{isShift, wrapped, notW}
-use Rattle.definition.specs.Memory.{extractWord}
+use Rattle.definition.specs.declared.Error.{Error}
+use Rattle.definition.specs.declared.Error.the-variants.{InvalidInstruction}
+use Rattle.definition.specs.Word.{isShift}
 use Rattle.definition.specs.Registers as R
-use Rattle.definition.specs.Registers.{Reg, regAt, getReg, assigned, refused}
-use Rattle.definition.specs.Arguments.{Operand, operandWord}
-use Rattle.definition.specs.Computer.{core, ok, err, andThen, orWord, orPut}
-use Rattle.definition.specs.Instructions.{andFlags, putResult, putWrapped, putShifted, words, neg, notOp}
+use Rattle.definition.specs.Registers.{Reg, assigned, refused}
+use Rattle.definition.specs.Arguments.{Operand}
+use Rattle.definition.specs.Exec.{Res, Exec, core, ok, err, andThen, _>>=_, return, assign}
+use Rattle.definition.specs.Instructions.{andFlags, putResult, putShifted, wordOf, registerWord, words}
 use Rattle.registers.specs.declared.Put.{Put}
-use Rattle.registers.specs.Answer.{settled, putRes}
-use Rattle.registers.proofs.Laws.{settled-is}
-use Rattle.arguments.specs.declared.Arg.{Arg}
-use Rattle.arguments.specs.By.{argOf, wordBy}
-use Rattle.arguments.proofs.Laws.{word-by}
+use Rattle.registers.specs.Meaning.{settled, result, putRes}
+use Rattle.registers.proofs.Laws.{settled-is, then-ok, then-err}
+use Rattle.arguments.specs.declared.taken.WordTaken.{WordTaken}
+use Rattle.arguments.specs.Taken.{tookWord}
+use Rattle.arguments.proofs.Laws.{word-of-is, register-word-is, word-ok, word-err}
 use Rattle.operations.specs.declared.Two.{Two}
-use Rattle.operations.specs.Both.{bothOf}
+use Rattle.operations.specs.Two.{twoWords, tookTwo, twoRes}
 
 -- the flags follow a register that took its value
 module _ (f : Registers → Registers) (s : Registers) (q : Put) where
@@ -45,56 +43,64 @@ module _ (f : ℤ → ℕ → ℤ) (r : Reg) (v w : ℤ) (s : Registers) where
   unfolding putShifted
   shift-no h = rw h
 
-module _ (l : List ℤ) (s : Registers) where
-  -- two words
-  module _ (x : Operand) (r : Reg) (k : ℤ → ℤ → Registers → R.Put) where
-    words-yes : (v w : ℤ) → operandWord x l s ≡ Is v → extractWord (getReg r s) ≡ Is w → orPut (k v w s) (core l s) ≡ words x r k (core l s)
-    unfolding words andThen orWord
-    words-yes v w h₁ h₂ = rw (h₁, h₂)
+-- one word, the register's
+module _ (l : List ℤ) (s : Registers) (r : Reg) (k : ℤ → Registers → R.Put) (t : WordTaken) (h : t ≡ tookWord (registerWord r (core l s))) (q : Put) where
+  pub one-put : t .ok ≡ true → q ≡ settled (t .s) (k (t .value) (t .s)) → putRes l q ≡ andThen (registerWord r (core l s)) (λ w. assign (k w))
+  one-put e f = word-ok l t (register-word-is l s r t h) _ e (ap (putRes l) f ∙ settled-is (t .s) l (k (t .value) (t .s)))
 
-    words-no₁ : operandWord x l s ≡ NotWord → err Extract (core l s) ≡ words x r k (core l s)
-    unfolding words andThen orWord
-    words-no₁ h₁ = rw h₁
+  pub one-none : t .ok ≡ false → q ≡ settled (t .s) (refused (t .error)) → putRes l q ≡ andThen (registerWord r (core l s)) (λ w. assign (k w))
+  one-none e f = word-err l t (register-word-is l s r t h) _ e (ap (putRes l) f)
 
-    words-no₂ : (v : ℤ) → operandWord x l s ≡ Is v → extractWord (getReg r s) ≡ NotWord → err Extract (core l s) ≡ words x r k (core l s)
-    unfolding words andThen orWord
-    words-no₂ v h₁ h₂ = rw (h₁, h₂)
+-- two words
+abbrev pair : ℤ → ℤ → Exec (ℤ × ℤ)
+pair v w = return (v, w)
 
-  module _ (x : Arg) (r : ℕ) (k : ℤ → ℤ → Registers → R.Put) (t : Two) (q : Put)
-      (h : t ≡ bothOf (wordBy (x .mode) (getReg (regAt (x .reg)) s) (x .number) l) (extractWord (getReg (regAt r) s))) where
-    both-is : t ≡ bothOf (operandWord (argOf x) l s) (extractWord (getReg (regAt r) s))
-    both-is = h ∙ ap (λ (y : Word). bothOf y (extractWord (getReg (regAt r) s))) (word-by (x .reg) (x .number) s (x .mode) l)
+abbrev second : Reg → ℤ → Exec (ℤ × ℤ)
+second r v = registerWord r >>= pair v
 
-    pub words-put : t .ok ≡ true → q ≡ settled s (k (t .v) (t .w) s) → putRes l q ≡ words (argOf x) (regAt r) k (core l s)
-    words-put e p = ap (putRes l) p ∙ settled-is s l (k (t .v) (t .w) s) ∙ go (operandWord (argOf x) l s) (extractWord (getReg (regAt r) s)) refl refl both-is
-      where
-        go : (a b : Word) → operandWord (argOf x) l s ≡ a → extractWord (getReg (regAt r) s) ≡ b → t ≡ bothOf a b → orPut (k (t .v) (t .w) s) (core l s) ≡ words (argOf x) (regAt r) k (core l s)
-        go (Is v) (Is w) h₁ h₂ ht = ap (λ (t : Two). orPut (k (t .v) (t .w) s) (core l s)) ht ∙ words-yes (argOf x) (regAt r) k v w h₁ h₂
-        go (Is v) NotWord h₁ h₂ ht = absurd (true≢false (sym e ∙ ap (λ (t : Two). t .ok) ht))
-        go NotWord b h₁ h₂ ht = absurd (true≢false (sym e ∙ ap (λ (t : Two). t .ok) ht))
+abbrev assigned-to : (ℤ → ℤ → Registers → R.Put) → ℤ × ℤ → Exec (Unit {0})
+assigned-to k p = assign (k (p .0) (p .1))
 
-    pub words-none : t .ok ≡ false → q ≡ settled s (refused Extract) → putRes l q ≡ words (argOf x) (regAt r) k (core l s)
-    words-none e p = ap (putRes l) p ∙ go (operandWord (argOf x) l s) (extractWord (getReg (regAt r) s)) refl refl both-is
-      where
-        go : (a b : Word) → operandWord (argOf x) l s ≡ a → extractWord (getReg (regAt r) s) ≡ b → t ≡ bothOf a b → err Extract (core l s) ≡ words (argOf x) (regAt r) k (core l s)
-        go (Is v) (Is w) h₁ h₂ ht = absurd (true≢false (sym (ap (λ (t : Two). t .ok) ht) ∙ e))
-        go (Is v) NotWord h₁ h₂ ht = words-no₂ (argOf x) (regAt r) k v h₁ h₂
-        go NotWord b h₁ h₂ ht = words-no₁ (argOf x) (regAt r) k h₁
+abbrev Is-two : List ℤ → Res (ℤ × ℤ) → Type 0
+Is-two l m = twoRes l (tookTwo m) ≡ m
 
-  -- one word
-  module _ (r : Reg) where
-    pub neg-yes : (w : ℤ) → extractWord (getReg r s) ≡ Is w → orPut (putWrapped r (wrapped (negℤ w)) s) (core l s) ≡ neg r (core l s)
-    unfolding neg andThen orWord
-    neg-yes w h = rw h
+module _ (l : List ℤ) (x : Operand) (r : Reg) where
+  two-second : (v : ℤ) (b : Bool) (w : ℤ) (e : Error) (s : Registers) → Is-two l (andThen (result w b e (core l s)) (pair v))
+  unfolding andThen
+  two-second v true w e s = refl
+  two-second v false w e s = refl
 
-    pub neg-no : extractWord (getReg r s) ≡ NotWord → err Extract (core l s) ≡ neg r (core l s)
-    unfolding neg andThen orWord
-    neg-no h = rw h
+  two-first : (b : Bool) (v : ℤ) (e : Error) (s : Registers) → Is-two l (andThen (result v b e (core l s)) (second r))
+  unfolding andThen
+  two-first true v e s =
+      let t = tookWord (registerWord r (core l s)) in
+      subst (λ (m : Res ℤ). Is-two l (andThen m (pair v))) (register-word-is l s r t refl) (two-second v (t .ok) (t .value) (t .error) (t .s))
+  two-first false v e s = refl
 
-    pub not-yes : (w : ℤ) → extractWord (getReg r s) ≡ Is w → orPut (putResult r (notW w) s) (core l s) ≡ notOp r (core l s)
-    unfolding notOp andThen orWord
-    not-yes w h = rw h
+  two-is : (s : Registers) → Is-two l (twoWords x r (core l s))
+  unfolding twoWords
+  two-is s =
+      let t = tookWord (wordOf x (core l s)) in
+      subst (λ (m : Res ℤ). Is-two l (andThen m (second r))) (word-of-is l s x t refl) (two-first (t .ok) (t .value) (t .error) (t .s))
 
-    pub not-no : extractWord (getReg r s) ≡ NotWord → err Extract (core l s) ≡ notOp r (core l s)
-    unfolding notOp andThen orWord
-    not-no h = rw h
+  module _ (k : ℤ → ℤ → Registers → R.Put) where
+    words-second : (v : ℤ) (m : Res ℤ) → andThen (andThen m (pair v)) (assigned-to k) ≡ andThen m (λ w. assign (k v w))
+    unfolding andThen
+    words-second v (ok w c) = refl
+    words-second v (err e c) = refl
+
+    words-first : (m : Res ℤ) → andThen (andThen m (second r)) (assigned-to k) ≡ andThen m (λ v. registerWord r >>= λ w. assign (k v w))
+    unfolding andThen
+    words-first (ok v c) = words-second v (registerWord r c)
+    words-first (err e c) = refl
+
+    words-are : (s : Registers) → andThen (twoWords x r (core l s)) (assigned-to k) ≡ words x r k (core l s)
+    unfolding twoWords words
+    words-are s = words-first (wordOf x (core l s))
+
+    module _ (s : Registers) (t : Two) (h : t ≡ tookTwo (twoWords x r (core l s))) (q : Put) where
+      pub words-put : t .ok ≡ true → q ≡ settled (t .s) (k (t .v) (t .w) (t .s)) → putRes l q ≡ words x r k (core l s)
+      words-put e f = then-ok (t .v, t .w) (t .ok) (t .error) (core l (t .s)) (ap (twoRes l) h ∙ two-is s) (assigned-to k) e (ap (putRes l) f ∙ settled-is (t .s) l (k (t .v) (t .w) (t .s))) ∙ words-are s
+
+      pub words-none : t .ok ≡ false → q ≡ settled (t .s) (refused (t .error)) → putRes l q ≡ words x r k (core l s)
+      words-none e f = then-err (t .v, t .w) (t .ok) (t .error) (core l (t .s)) (ap (twoRes l) h ∙ two-is s) (assigned-to k) e (ap (putRes l) f) ∙ words-are s

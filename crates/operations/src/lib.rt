@@ -1,44 +1,67 @@
 // instructions.rs, its arithmetic: what a result does to the registers, and (words.rt) the instructions that compute on words.
+use arguments::Arg;
 use definition::Error;
 use definition::Quotient;
 use definition::Registers;
-use definition::Word;
 use definition::Wrapped;
 use registers::Put;
 ghost use mathlib.Core.Path.{_≡_};
-ghost use Rattle.definition.specs.Word.{shlW, shrW};
+ghost use Prim.Native.Nat.{_<_};
+ghost use lib.IntN.{pos};
+ghost use mathlib.Core.Bool.{false};
 ghost use Rattle.definition.specs.Registers.{regAt};
 ghost use Rattle.definition.specs.Instructions.{signFlags, putResult, putWrapped, putCompared, putQuotient, putShifted};
-ghost use Rattle.registers.specs.Answer.{settled};
-ghost use Rattle.operations.specs.Both.{bothOf};
+ghost use Rattle.registers.specs.Meaning.{settled};
+ghost use Rattle.definition.specs.Exec.{core};
+ghost use Rattle.arguments.specs.Operands.{argOf};
+ghost use Rattle.operations.specs.Two.{twoWords, tookTwo, shiftW};
 
 pub mod words;
 
-// Two words, if both are.
+// Two words, or an error, and the registers as they are left. Where ok, `error` is a filler; else the words are.
 pub struct Two {
     pub ok: bool,
+    pub error: Error,
     pub v: i64,
     pub w: i64,
+    pub s: Registers,
 }
 
-pub fn both(x: Word, y: Word) -> Two
-    ensures { λ r. ⌜ r ≡ bothOf x y ⌝ }
+fn no_words(s: Registers, error: Error) -> Two
+    ensures { λ t. ⌜ t ≡ record { ok = false; error = error; v = pos 0; w = pos 0; s = s } ⌝ }
 {
-    match x {
-        Word::Is(v) => match y {
-            Word::Is(w) => Two { ok: true, v, w },
-            Word::NotWord => Two {
-                ok: false,
-                v: 0,
-                w: 0,
-            },
-        },
-        Word::NotWord => Two {
-            ok: false,
-            v: 0,
-            w: 0,
-        },
+    Two {
+        ok: false,
+        error,
+        v: 0,
+        w: 0,
+        s,
     }
+}
+
+// The operand's word, then the register's.
+pub fn two_words(cells: &[i64], s: Registers, x: Arg, r: u32) -> Two
+    ensures { λ t. ⌜ t ≡ tookTwo (twoWords (argOf x) (regAt r) (core (now (cells .entry)) s)) ⌝ }
+{
+    let first = arguments::word_of(cells, s, x);
+    let between = first.s;
+    if first.ok {
+        let second = arguments::register_word(between, r);
+        let after = second.s;
+        if second.ok {
+            return Two {
+                ok: true,
+                error: Error::Reset,
+                v: first.value,
+                w: second.value,
+                s: after,
+            };
+        }
+        let error = second.error;
+        return no_words(after, error);
+    }
+    let error = first.error;
+    no_words(between, error)
 }
 
 // Z and N
@@ -97,22 +120,23 @@ pub fn put_quotient(s: Registers, r: u32, x: Quotient) -> Put
     }
 }
 
-// "Shift amounts are 0 to 63; others raise code 2."
-pub fn put_shl(s: Registers, r: u32, v: i64, w: i64) -> Put
-    ensures { λ q. ⌜ q ≡ settled s (putShifted shlW (regAt r) v w s) ⌝ }
+fn shift(left: bool, w: i64, k: u32) -> i64
+    requires { ⌜ k < 64 ⌝ }
+    ensures { λ r. ⌜ r ≡ shiftW left w k ⌝ }
 {
-    if word::is_shift(v) {
-        put_result(s, r, word::shl(w, v as u32))
+    if left {
+        word::shl(w, k)
     } else {
-        registers::refuse(s, Error::InvalidInstruction)
+        word::shr(w, k)
     }
 }
 
-pub fn put_shr(s: Registers, r: u32, v: i64, w: i64) -> Put
-    ensures { λ q. ⌜ q ≡ settled s (putShifted shrW (regAt r) v w s) ⌝ }
+// "Shift amounts are 0 to 63; others raise code 2."
+pub fn put_shifted(s: Registers, r: u32, left: bool, v: i64, w: i64) -> Put
+    ensures { λ q. ⌜ q ≡ settled s (putShifted (shiftW left) (regAt r) v w s) ⌝ }
 {
     if word::is_shift(v) {
-        put_result(s, r, word::shr(w, v as u32))
+        put_result(s, r, shift(left, w, v as u32))
     } else {
         registers::refuse(s, Error::InvalidInstruction)
     }

@@ -2,6 +2,7 @@
 use checks::accept;
 use checks::check;
 use definition::Done;
+use definition::places;
 ghost use mathlib.Core.Path.{_≡_};
 ghost use mathlib.Core.Bool.{_&&_, _||_};
 ghost use Prim.Native.Nat.{_%_};
@@ -16,7 +17,7 @@ pub fn fresh_check(cells: &[i64], row: &[i64]) -> Done
     ensures { λ r. ⌜ r ≡ freshCheck (now (cells .entry)) (now (row .entry)) ⌝ }
 {
     let whole = checks::cells_fit(cells);
-    check(whole, 1, 0, check(row.len() == 16, 4, 0, accept()))
+    check(whole, 1, 0, check(row.len() == places::ROW, 4, 0, accept()))
 }
 
 // Its order and damage's are measured: the run's loop, compiled into the same function, gets its registers by them.
@@ -62,7 +63,7 @@ pub fn deliver_check(queue: &[u8], row: &[i64], bytes: &[u8]) -> Done
     if checks::queue_fits(queue) {
         let d = checks::row_check(row, queue.len(), 65536);
         if d.refusal == 0 {
-            let room = queue.len() - row::number_at(row, 14) as usize;
+            let room = queue.len() - row::number_at(row, places::COUNT) as usize;
             check(bytes.len() <= room, 6, 0, accept())
         } else {
             d
@@ -82,7 +83,7 @@ pub fn drain_check(output: &[u8], row: &[i64], buffer: &[u8]) -> Done
     if checks::output_fits(output) {
         let d = checks::row_check(row, 4096, output.len());
         if d.refusal == 0 {
-            let n = row::number_at(row, 15) as usize;
+            let n = row::number_at(row, places::WRITTEN) as usize;
             check(n <= buffer.len(), 7, 0, accept())
         } else {
             d

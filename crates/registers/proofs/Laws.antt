@@ -1,5 +1,6 @@
 -- Registers by number, and answers as results: what the proofs of this crate and of those above cite.
 use mathlib.Core.Path.{_≡_, refl, sym, ap}
+use mathlib.Core.Bool.{Bool, true, false}
 use mathlib.Core.List.{List}
 use Prim.Native.Nat.{ℕ, zero, suc, _-_}
 use native.Mathlib.Omega.{arith}
@@ -7,8 +8,9 @@ use lib.IntN.{ℤ}
 use Rattle.definition.specs.declared.Registers.{Registers}
 use Rattle.definition.specs.Registers as R
 use Rattle.definition.specs.Registers.{A, regAt}
-use Rattle.definition.specs.Computer.{core, orPut, below}
-use Rattle.registers.specs.Answer.{settled, putRes}
+use Rattle.definition.specs.declared.Error.{Error}
+use Rattle.definition.specs.Exec.{Core, Res, Exec, core, err, andThen, orPut, below}
+use Rattle.registers.specs.Meaning.{settled, result, putRes}
 
 -- a register's number, and any number past 4 is a
 pub reg-is : (n k : ℕ) → n ≡ k → regAt k ≡ regAt n
@@ -28,6 +30,16 @@ pub settled-is : (s : Registers) (l : List ℤ) (p : R.Put) → putRes l (settle
 unfolding orPut
 settled-is s l (R.assigned t) = refl
 settled-is s l (R.refused e) = refl
+
+-- an answer m is followed by k where it is good, and ends there where it is not
+module _ {X Y : Type 0} {m : Res X} {r : Res Y} (v : X) (b : Bool) (e : Error) (c : Core) (h : result v b e c ≡ m) (k : X → Exec Y) where
+  pub then-ok : b ≡ true → r ≡ k v c → r ≡ andThen m k
+  unfolding andThen
+  then-ok t f = rw (← h, t, f)
+
+  pub then-err : b ≡ false → r ≡ err e c → r ≡ andThen m k
+  unfolding andThen
+  then-err t f = rw (← h, t, f)
 
 pub below-zero : (n : ℕ) → n ≡ 0 → 4294967295 ≡ below n
 unfolding below

@@ -7,8 +7,8 @@ use definition::Word;
 ghost use mathlib.Core.Path.{_≡_};
 ghost use Prim.Native.Nat.{_<_};
 ghost use Rattle.definition.specs.Registers.{regAt, getReg, putReg, putPc, putSp, putSr, putFlag, supervisor, interruptEnable, assigned, refused};
-ghost use Rattle.definition.specs.Computer.{below};
-ghost use Rattle.registers.specs.Answer.{settled};
+ghost use Rattle.definition.specs.Exec.{below};
+ghost use Rattle.registers.specs.Meaning.{settled};
 
 // The registers after an instruction that writes no cell. Where ok, `error` is a filler.
 pub struct Put {

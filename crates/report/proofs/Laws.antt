@@ -13,9 +13,10 @@ use lib.Seq.{drop-cons, drop-length}
 use borrow.Author.Tests.{lt-ltb, le-ltb}
 use Rattle.io.specs.Digits.{glyph, digits, Fewest}
 use Rattle.definition.specs.declared.Ran.{Ran}
+use Rattle.definition.specs.Constants.{ROW-A, ROW-B, ROW-PC, ROW-SP, ROW-SR, ROW-CYCLES, ROW-WRITTEN}
 use Rattle.definition.specs.Calls.{at}
 use Rattle.word.proofs.Laws.{ltb-elim, pos-sign}
-use Rattle.report.specs.Text.{decimalIn, decimal, numeral, field, fields, line, answerText, registersText, cellsText, runText, refusalText, stopName, stepsName}
+use Rattle.report.specs.Text.{decimalIn, decimal, numeral, field, fields, line, numbersFrom, answerText, registersText, cellsText, runText, refusalText, stopName, stepsName}
 
 -- ---- a text grows
 
@@ -124,7 +125,7 @@ numeral-pos n = refl
 
 -- ---- 512 bytes hold every text
 
-decimal-short : (k n : ℕ) → length (decimalIn k n) ≤ k
+pub decimal-short : (k n : ℕ) → length (decimalIn k n) ≤ k
 unfolding decimalIn
 decimal-short zero n = omega arith
 decimal-short (suc k) n =
@@ -151,11 +152,11 @@ unfolding runText answerText registersText cellsText line
 run-fits ran row =
     let a = fields-short (pos (ran .stop) ∷ pos (ran .detail) ∷ []) in
     let b = fields-short (pos (ran .steps) ∷ []) in
-    let d = fields-short (at 10 row ∷ []) in
-    let e = fields-short (at 7 row ∷ at 8 row ∷ at 9 row ∷ []) in
-    let f = fields-short (at 1 row ∷ at 2 row ∷ at 3 row ∷ []) in
-    let g = fields-short (at 4 row ∷ at 5 row ∷ at 6 row ∷ []) in
-    let h = fields-short (at 16 row ∷ []) in
+    let d = fields-short (at ROW-CYCLES row ∷ []) in
+    let e = fields-short (at ROW-PC row ∷ at ROW-SP row ∷ at ROW-SR row ∷ []) in
+    let f = fields-short (numbersFrom ROW-A row) in
+    let g = fields-short (numbersFrom ROW-B row) in
+    let h = fields-short (at ROW-WRITTEN row ∷ []) in
     simp length-append (omega arith)
 
 pub refusal-fits : (n : ℕ) → length (refusalText n) ≤ 512

@@ -5,6 +5,7 @@ use Prim.Native.Nat.{ℕ, zero, suc, _+_, _/_, _%_}
 use lib.Dec.{ltb}
 use lib.IntN.{ℤ, pos, negsuc}
 use Rattle.definition.specs.declared.Ran.{Ran}
+use Rattle.definition.specs.Constants.{ROW-A, ROW-B, ROW-PC, ROW-SP, ROW-SR, ROW-CYCLES, ROW-WRITTEN}
 use Rattle.definition.specs.Calls.{at}
 
 -- The decimal digits of n with no zero in front; of a number with more than k digits, the last k.
@@ -66,12 +67,16 @@ answerText ran =
 -- "cycles; pc, sp, sr": the lines `cycles` and `regs`.
 unfoldable pub registersText : List ℤ → List ℕ
 registersText row =
-    line cyclesName (at 10 row ∷ []) ++ line regsName (at 7 row ∷ at 8 row ∷ at 9 row ∷ [])
+    line cyclesName (at ROW-CYCLES row ∷ []) ++ line regsName (at ROW-PC row ∷ at ROW-SP row ∷ at ROW-SR row ∷ [])
+
+-- The three numbers of the cell that begins at this place.
+abbrev pub numbersFrom : ℕ → List ℤ → List ℤ
+numbersFrom i row = at i row ∷ at (i + 1) row ∷ at (i + 2) row ∷ []
 
 -- "cells a and b; output count": the lines `a`, `b` and `out`.
 unfoldable pub cellsText : List ℤ → List ℕ
 cellsText row =
-    line aName (at 1 row ∷ at 2 row ∷ at 3 row ∷ []) ++ (line bName (at 4 row ∷ at 5 row ∷ at 6 row ∷ []) ++ line outName (at 16 row ∷ []))
+    line aName (numbersFrom ROW-A row) ++ (line bName (numbersFrom ROW-B row) ++ line outName (at ROW-WRITTEN row ∷ []))
 
 -- The seven lines, in document 01's order, of what run answered and the row that it left.
 unfoldable pub runText : Ran → List ℤ → List ℕ

@@ -1,11 +1,13 @@
 // What the runner prints, as text: the seven lines of a run, or a refusal. Each function puts a text behind the first `at` bytes of a buffer
 // and answers where the text ends. 512 bytes hold every text.
 use definition::Ran;
+use definition::places;
 ghost use mathlib.Core.Path.{_≡_};
 ghost use mathlib.Core.List.{[], _∷_, _++_};
 ghost use Prim.Native.Nat.{_+_, _≤_};
 ghost use lib.IntN.{pos};
 ghost use lib.ListN.{length, take};
+ghost use Rattle.definition.specs.Constants.{ROW};
 ghost use Rattle.io.specs.Counts.{Counts};
 ghost use Rattle.report.specs.Text.{decimal, field, line, answerText, registersText, cellsText, runText, refusalText};
 
@@ -101,30 +103,30 @@ pub fn put_answer(out: &mut [u8], ran: Ran) -> usize
 
 // "cycles; pc, sp, sr"
 pub fn put_registers(out: &mut [u8], at: usize, row: &[i64]) -> usize
-    requires { ⌜ length (now row) ≡ 16 ⌝ }
+    requires { ⌜ length (now row) ≡ ROW ⌝ }
     requires { ⌜ at + length (registersText (now row)) ≤ length (now out) ⌝ }
     ensures { λ r. ⌜ take r (now (out .exit)) ≡ take at (now (out .entry)) ++ registersText (now (row .entry)) ⌝ }
     ensures { λ r. ⌜ r ≡ at + length (registersText (now (row .entry))) ⌝ }
 {
-    let i = put_line(out, at, b"cycles", &row[9..10]);
-    put_line(out, i, b"regs", &row[6..9])
+    let i = put_line(out, at, b"cycles", &row[places::CYCLES..places::ENABLE]);
+    put_line(out, i, b"regs", &row[places::PC..places::CYCLES])
 }
 
 // "cells a and b; output count"
 pub fn put_cells(out: &mut [u8], at: usize, row: &[i64]) -> usize
-    requires { ⌜ length (now row) ≡ 16 ⌝ }
+    requires { ⌜ length (now row) ≡ ROW ⌝ }
     requires { ⌜ at + length (cellsText (now row)) ≤ length (now out) ⌝ }
     ensures { λ r. ⌜ take r (now (out .exit)) ≡ take at (now (out .entry)) ++ cellsText (now (row .entry)) ⌝ }
     ensures { λ r. ⌜ r ≡ at + length (cellsText (now (row .entry))) ⌝ }
 {
-    let i = put_line(out, at, b"a", &row[0..3]);
-    let i = put_line(out, i, b"b", &row[3..6]);
-    put_line(out, i, b"out", &row[15..16])
+    let i = put_line(out, at, b"a", &row[places::A..places::B]);
+    let i = put_line(out, i, b"b", &row[places::B..places::PC]);
+    put_line(out, i, b"out", &row[places::WRITTEN..places::ROW])
 }
 
 // The seven lines.
 pub fn put_run(out: &mut [u8], ran: Ran, row: &[i64]) -> usize
-    requires { ⌜ (length (now row) ≡ 16) × (length (now out) ≡ 512) ⌝ }
+    requires { ⌜ (length (now row) ≡ ROW) × (length (now out) ≡ 512) ⌝ }
     ensures { λ r. ⌜ take r (now (out .exit)) ≡ runText ran (now (row .entry)) ⌝ }
     ensures { λ r. ⌜ Counts r (now (out .exit)) ⌝ }
 {

@@ -1,2 +1,2 @@
-pub mod RowBack
+pub mod Register
 pub mod Lists

@@ -3,18 +3,21 @@ use console::ConsoleState;
 use definition::Cell;
 use definition::Marks;
 use definition::Registers;
+use definition::places;
 ghost use mathlib.Core.Path.{_≡_};
 ghost use mathlib.Core.List.{[]};
 ghost use Prim.Native.Nat.{_+_, _<_, _^_};
 ghost use lib.IntN.{pos, natAbs};
 ghost use lib.ListN.{length, getD, set};
+ghost use Rattle.definition.specs.Constants.{ROW, ROW-PC, ROW-SP, ROW-SR, ROW-CYCLES, ROW-ENABLE, ROW-FLAG, ROW-PENDING, ROW-START, ROW-COUNT, ROW-WRITTEN};
 ghost use Rattle.definition.specs.Word.{eqZ};
 ghost use Rattle.definition.specs.Memory.{cell};
-ghost use Rattle.definition.specs.Calls.{at, mark, rowOf, deliveredRow};
-ghost use Rattle.definition.specs.Computer.{core};
+ghost use Rattle.definition.specs.Calls.{at, put, mark, rowOf, deliveredRow};
+ghost use Rattle.definition.specs.Accepted.{Below};
+ghost use Rattle.definition.specs.Exec.{core};
 ghost use Rattle.definition.specs.Runtime.{machine};
-ghost use Rattle.console.specs.State.{consoleOf};
-ghost use Rattle.row.specs.Row.{Below, registersOf, marksOf, stateOf};
+ghost use Rattle.console.specs.Meaning.{consoleOf};
+ghost use Rattle.row.specs.Meaning.{registersOf, marksOf, stateOf};
 
 pub fn number_at(row: &[i64], i: usize) -> u64
     requires { ⌜ i < length (now row) ⌝ }
@@ -44,39 +47,39 @@ pub fn cell_at(row: &[i64], i: usize) -> Cell
 }
 
 pub fn registers(row: &[i64]) -> Registers
-    requires { ⌜ (length (now row) ≡ 16) × (Below (2 ^ 32) (at 7 (now row)) × Below (2 ^ 32) (at 8 (now row))) ⌝ }
+    requires { ⌜ (length (now row) ≡ ROW) × (Below (2 ^ 32) (at ROW-PC (now row)) × Below (2 ^ 32) (at ROW-SP (now row))) ⌝ }
     ensures { λ r. ⌜ r ≡ registersOf (now (row .entry)) ⌝ }
 {
-    let sr = row[8];
+    let sr = row[places::SR];
     Registers {
-        a: cell_at(row, 0),
-        b: cell_at(row, 3),
-        pc: number_at(row, 6) as u32,
-        sp: number_at(row, 7) as u32,
+        a: cell_at(row, places::A),
+        b: cell_at(row, places::B),
+        pc: number_at(row, places::PC) as u32,
+        sp: number_at(row, places::SP) as u32,
         sr,
     }
 }
 
 pub fn marks(row: &[i64]) -> Marks
-    requires { ⌜ length (now row) ≡ 16 ⌝ }
+    requires { ⌜ length (now row) ≡ ROW ⌝ }
     ensures { λ r. ⌜ r ≡ marksOf (now (row .entry)) ⌝ }
 {
     Marks {
-        enable: mark_at(row, 10),
-        flag: mark_at(row, 11),
-        pending: mark_at(row, 12),
+        enable: mark_at(row, places::ENABLE),
+        flag: mark_at(row, places::FLAG),
+        pending: mark_at(row, places::PENDING),
     }
 }
 
 pub fn console_state(row: &[i64]) -> ConsoleState
-    requires { ⌜ length (now row) ≡ 16 ⌝ }
+    requires { ⌜ length (now row) ≡ ROW ⌝ }
     ensures { λ r. ⌜ r ≡ stateOf (now (row .entry)) ⌝ }
 {
     ConsoleState {
         marks: marks(row),
-        start: number_at(row, 13) as usize,
-        count: number_at(row, 14) as usize,
-        written: number_at(row, 15) as usize,
+        start: number_at(row, places::START) as usize,
+        count: number_at(row, places::COUNT) as usize,
+        written: number_at(row, places::WRITTEN) as usize,
     }
 }
 
@@ -107,53 +110,53 @@ pub fn put_cell(row: &mut [i64], i: usize, v: Cell)
 
 // pc, sp, sr and cycles.
 pub fn put_numbers(row: &mut [i64], s: Registers, cycles: u64)
-    requires { ⌜ (length (now row) ≡ 16) × (cycles < 2 ^ 63) ⌝ }
-    ensures { λ r. ⌜ now (row .exit) ≡ set (set (set (set (now (row .entry)) 6 (pos (s .pc))) 7 (pos (s .sp))) 8 (s .sr)) 9 (pos cycles) ⌝ }
+    requires { ⌜ (length (now row) ≡ ROW) × (cycles < 2 ^ 63) ⌝ }
+    ensures { λ r. ⌜ now (row .exit) ≡ put ROW-CYCLES (pos cycles) (put ROW-SR (s .sr) (put ROW-SP (pos (s .sp)) (put ROW-PC (pos (s .pc)) (now (row .entry))))) ⌝ }
 {
     let pc = s.pc as i64;
     let sp = s.sp as i64;
     let sr = s.sr;
     let spent = cycles as i64;
-    row[6] = pc;
-    row[7] = sp;
-    row[8] = sr;
-    row[9] = spent;
+    row[places::PC] = pc;
+    row[places::SP] = sp;
+    row[places::SR] = sr;
+    row[places::CYCLES] = spent;
 }
 
 pub fn put_marks(row: &mut [i64], k: Marks)
-    requires { ⌜ length (now row) ≡ 16 ⌝ }
-    ensures { λ r. ⌜ now (row .exit) ≡ set (set (set (now (row .entry)) 10 (mark (k .enable))) 11 (mark (k .flag))) 12 (mark (k .pending)) ⌝ }
+    requires { ⌜ length (now row) ≡ ROW ⌝ }
+    ensures { λ r. ⌜ now (row .exit) ≡ put ROW-PENDING (mark (k .pending)) (put ROW-FLAG (mark (k .flag)) (put ROW-ENABLE (mark (k .enable)) (now (row .entry)))) ⌝ }
 {
     let enable = mark_number(k.enable);
     let flag = mark_number(k.flag);
     let pending = mark_number(k.pending);
-    row[10] = enable;
-    row[11] = flag;
-    row[12] = pending;
+    row[places::ENABLE] = enable;
+    row[places::FLAG] = flag;
+    row[places::PENDING] = pending;
 }
 
 pub fn put_console(row: &mut [i64], k: ConsoleState)
-    requires { ⌜ (length (now row) ≡ 16) × ((k .start < 2 ^ 63) × ((k .count < 2 ^ 63) × (k .written < 2 ^ 63))) ⌝ }
-    ensures { λ r. ⌜ now (row .exit) ≡ set (set (set (now (row .entry)) 13 (pos (k .start))) 14 (pos (k .count))) 15 (pos (k .written)) ⌝ }
+    requires { ⌜ (length (now row) ≡ ROW) × ((k .start < 2 ^ 63) × ((k .count < 2 ^ 63) × (k .written < 2 ^ 63))) ⌝ }
+    ensures { λ r. ⌜ now (row .exit) ≡ put ROW-WRITTEN (pos (k .written)) (put ROW-COUNT (pos (k .count)) (put ROW-START (pos (k .start)) (now (row .entry)))) ⌝ }
 {
     let start = k.start as i64;
     let count = k.count as i64;
     let written = k.written as i64;
-    row[13] = start;
-    row[14] = count;
-    row[15] = written;
+    row[places::START] = start;
+    row[places::COUNT] = count;
+    row[places::WRITTEN] = written;
 }
 
 // The whole row anew.
 pub fn write_row(row: &mut [i64], s: Registers, cycles: u64, k: ConsoleState)
-    requires { ⌜ (length (now row) ≡ 16) × ((cycles < 2 ^ 63) × ((k .start < 2 ^ 63) × ((k .count < 2 ^ 63) × (k .written < 2 ^ 63)))) ⌝ }
+    requires { ⌜ (length (now row) ≡ ROW) × ((cycles < 2 ^ 63) × ((k .start < 2 ^ 63) × ((k .count < 2 ^ 63) × (k .written < 2 ^ 63)))) ⌝ }
     ensures { λ r. ⌜ now (row .exit) ≡ rowOf (machine (core [] s) cycles (consoleOf k [] [])) ⌝ }
 {
     let a = s.a;
     let b = s.b;
     let marks = k.marks;
-    put_cell(row, 0, a);
-    put_cell(row, 3, b);
+    put_cell(row, places::A, a);
+    put_cell(row, places::B, b);
     put_numbers(row, s, cycles);
     put_marks(row, marks);
     put_console(row, k);
@@ -161,14 +164,14 @@ pub fn write_row(row: &mut [i64], s: Registers, cycles: u64, k: ConsoleState)
 
 // The row after n bytes were delivered.
 pub fn put_delivered(row: &mut [i64], n: usize)
-    requires { ⌜ (length (now row) ≡ 16) × (natAbs (at 15 (now row)) + n < 2 ^ 63) ⌝ }
+    requires { ⌜ (length (now row) ≡ ROW) × (natAbs (at ROW-COUNT (now row)) + n < 2 ^ 63) ⌝ }
     ensures { λ r. ⌜ now (row .exit) ≡ deliveredRow n (now (row .entry)) ⌝ }
 {
     let k = marks::input_pushed(marks(row), n);
     let flag = mark_number(k.flag);
     let pending = mark_number(k.pending);
-    let count = (number_at(row, 14) + n as u64) as i64;
-    row[11] = flag;
-    row[12] = pending;
-    row[14] = count;
+    let count = (number_at(row, places::COUNT) + n as u64) as i64;
+    row[places::FLAG] = flag;
+    row[places::PENDING] = pending;
+    row[places::COUNT] = count;
 }

@@ -3,8 +3,12 @@
 use libc::STDOUT_FILENO;
 use lines::Reader;
 ghost use mathlib.Core.Path.{_≡_};
+ghost use mathlib.Core.List.{foldl};
 ghost use Prim.Native.Nat.{_+_, _≤_};
-ghost use lib.ListN.{length};
+ghost use lib.ListN.{length, take, replicate};
+ghost use Rattle.io.specs.Counts.{Counts};
+ghost use Rattle.lines.specs.Reader.{state, step, opened};
+ghost use Rattle.runner_cases.specs.Cases.{digitOf, lengthAt, passing, tallyOf, passedText, verdictText};
 
 // How far the cases got.
 struct Tally {
@@ -13,13 +17,8 @@ struct Tally {
     passed: u64,
 }
 
-fn no_cells() -> [i64; 6144]
-    ensures { λ r. ⌜ 6144 ≡ length r ⌝ }
-{
-    [0; 6144]
-}
-
 fn no_text() -> [u8; 512]
+    ensures { λ r. ⌜ r ≡ replicate 512 0 ⌝ }
     ensures { λ r. ⌜ 512 ≡ length r ⌝ }
 {
     [0; 512]
@@ -27,12 +26,14 @@ fn no_text() -> [u8; 512]
 
 // A file of cases is shorter than this.
 fn space() -> [u8; 65536]
+    ensures { λ r. ⌜ r ≡ replicate 65536 0 ⌝ }
     ensures { λ r. ⌜ 65536 ≡ length r ⌝ }
 {
     [0; 65536]
 }
 
 fn digit(b: u8) -> usize
+    ensures { λ r. ⌜ r ≡ digitOf b ⌝ }
     ensures { λ r. ⌜ r ≤ 9 ⌝ }
 {
     if b < 48 {
@@ -47,6 +48,7 @@ fn digit(b: u8) -> usize
 // The number of seven digits at `at`.
 fn length_at(s: &[u8], at: usize) -> usize
     requires { ⌜ at + 7 ≤ length (now s) ⌝ }
+    ensures { λ r. ⌜ r ≡ lengthAt (now (s .entry)) at ⌝ }
     ensures { λ r. ⌜ r ≤ 9999999 ⌝ }
 {
     let a = digit(s[at]) * 1000000 + digit(s[at + 1]) * 100000 + digit(s[at + 2]) * 10000;
@@ -57,6 +59,7 @@ fn length_at(s: &[u8], at: usize) -> usize
 // The input goes in by two parts, cut at `cut`.
 fn read_cut(cells: &mut [i64], input: &[u8], cut: usize) -> Reader
     requires { ⌜ length (now cells) ≡ 6144 ⌝ }
+    ensures { λ q. ⌜ state q (now (cells .exit)) ≡ foldl step (state opened (now (cells .entry))) (now (input .entry)) ⌝ }
 {
     let r = lines::open();
     if cut < input.len() {
@@ -68,12 +71,13 @@ fn read_cut(cells: &mut [i64], input: &[u8], cut: usize) -> Reader
 
 // 1 where the runner's text is the one that is due, else 0.
 fn passes(input: &[u8], due: &[u8], cut: usize) -> u64
+    ensures { λ r. ⌜ r ≡ passing (now (input .entry)) (now (due .entry)) ⌝ }
     ensures { λ r. ⌜ r ≤ 1 ⌝ }
 {
-    let mut cells = no_cells();
+    let mut cells = lines::empty_cells();
     let r = read_cut(&mut cells, input, cut);
     let mut out = no_text();
-    let n = marker::put_mark(&mut cells, r, &mut out);
+    let n = image_run::put_report(&mut cells, r, &mut out);
     if check::same(&out[..n], due) {
         return 1;
     }
@@ -90,7 +94,9 @@ fn tell(passed: u64, seen: u64) {
 }
 
 // Ends where a case does not stand whole.
-fn replay(s: &[u8]) -> Tally {
+fn replay(s: &[u8]) -> Tally
+    ensures { λ t. ⌜ t ≡ tallyOf (now (s .entry)) ⌝ }
+{
     let mut at: usize = 0;
     let mut seen: u64 = 0;
     let mut passed: u64 = 0;
@@ -116,6 +122,31 @@ fn replay(s: &[u8]) -> Tally {
     Tally { at, seen, passed }
 }
 
+fn put_passed(out: &mut [u8], t: Tally) -> usize
+    requires { ⌜ length (now out) ≡ 64 ⌝ }
+    ensures { λ r. ⌜ take r (now (out .exit)) ≡ passedText t ⌝ }
+    ensures { λ r. ⌜ Counts r (now (out .exit)) ⌝ }
+{
+    let i = report::put(out, 0, b": passed ");
+    let i = report::put_decimal(out, i, t.passed);
+    let i = report::put(out, i, b" of ");
+    let i = report::put_decimal(out, i, t.seen);
+    report::put_byte(out, i, 10)
+}
+
+// Puts what is said of a file of n bytes at the front of out and answers its length.
+fn put_verdict(out: &mut [u8], t: Tally, n: usize) -> usize
+    requires { ⌜ length (now out) ≡ 64 ⌝ }
+    ensures { λ r. ⌜ take r (now (out .exit)) ≡ verdictText t n ⌝ }
+    ensures { λ r. ⌜ Counts r (now (out .exit)) ⌝ }
+{
+    if t.at == n {
+        return put_passed(out, t);
+    }
+    report::put(out, 0, b": ends within a case\n")
+}
+
+// Writes the file's name and the verdict. No contract can say what is written: `replay` has the numbers and `put_verdict` the text.
 fn replay_file(i: usize) {
     let mut path = io::buffer();
     let k = os::arg(i, &mut path);
@@ -128,16 +159,10 @@ fn replay_file(i: usize) {
     let n = io::read_full(fd, &mut text);
     libc::close(fd);
     let t = replay(&text[..n]);
+    let mut out = [0u8; 64];
+    let l = put_verdict(&mut out, t, n);
     io::write_all(STDOUT_FILENO, &path[..k]);
-    if t.at == n {
-        io::write_all(STDOUT_FILENO, b": passed ");
-        io::print_decimal(STDOUT_FILENO, t.passed);
-        io::write_all(STDOUT_FILENO, b" of ");
-        io::print_decimal(STDOUT_FILENO, t.seen);
-        io::write_all(STDOUT_FILENO, b"\n");
-    } else {
-        io::write_all(STDOUT_FILENO, b": ends within a case\n");
-    }
+    io::write_all(STDOUT_FILENO, &out[..l]);
 }
 
 fn main() {

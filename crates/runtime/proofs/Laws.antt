@@ -12,14 +12,15 @@ use Rattle.definition.specs.declared.Cell.{Cell}
 use Rattle.definition.specs.declared.Registers.{Registers}
 use Rattle.definition.specs.declared.Error.the-variants.{InvalidMemoryAccess}
 use Rattle.definition.specs.Registers.{with-pc}
-use Rattle.definition.specs.Computer.{core, andThen, orCell, ok, err}
+use Rattle.definition.specs.Exec.{core, andThen, orCell, ok, err}
 use Rattle.memory.proofs.Laws.{get-in, get-out, over-in}
 use Rattle.definition.specs.Memory.{cellCount, cellAt, putCell, isInstruction}
 use Rattle.definition.specs.Encoding.{Extracted, instruction, noInstruction, decode, instructionAt, extractInstruction, sound, soundAt, legal, cost}
 use Rattle.definition.specs.Arguments.{modeCost}
 use Rattle.definition.specs.Word.{putBit}
 use Rattle.definition.specs.Runtime.{hasHandler, enteredSr, orInstruction, fetch}
-use Rattle.definition.proofs.AcceptedCore.{cell-same, cell-other}
+use Rattle.definition.proofs.Cells.{cell-same, cell-other}
+use Rattle.encoding.proofs.Rule.{mode-small}
 use Rattle.encoding.proofs.Sound.{far}
 use Rattle.memory.specs.Overlay.{overlay}
 
@@ -86,16 +87,6 @@ unfolding fetch andThen orCell
 fetch-out l s h = sym (rw (get-out l (s .pc) h))
 
 -- ---- costs
-
-mode-small : (m : ℕ) → modeCost m ≤ 1
-unfolding modeCost
-mode-small zero = omega arith
-mode-small (suc zero) = omega arith
-mode-small (suc (suc zero)) = omega arith
-mode-small (suc (suc (suc zero))) = omega arith
-mode-small (suc (suc (suc (suc zero)))) = omega arith
-mode-small (suc (suc (suc (suc (suc zero))))) = omega arith
-mode-small (suc (suc (suc (suc (suc (suc m)))))) = omega arith
 
 cost-small : (o m₁ m₂ : ℕ) → cost o m₁ m₂ ≤ 3
 unfolding cost

@@ -15,25 +15,26 @@ use Rattle.definition.specs.Memory.{cellCount, empty, word}
 use Rattle.definition.specs.Registers.{Reg, regAt}
 use Rattle.definition.specs.Encoding.{opAt}
 use Rattle.definition.specs.Io.{Console, readPort, writePort, outputFull}
-use Rattle.definition.specs.Computer.{Core, core, Res, ok, err}
+use Rattle.definition.specs.Exec.{Core, core, Res, ok, err}
 use Rattle.definition.specs.Instructions.{Request, nothing, reads, writes, inOp, outOp, execute, setRegister}
 use Rattle.definition.specs.Runtime as M
 use Rattle.definition.specs.Runtime.{Machine, machine, Executed}
-use Rattle.memory.specs.Overlay.{overlay}
+use Rattle.definition.proofs.Step.{conclude-core}
+use Rattle.memory.specs.Overlay.{NO-CELL, overlay}
 use Rattle.registers.specs.declared.Put.{Put}
-use Rattle.registers.specs.Answer.{result, answer, putRes}
-use Rattle.arguments.specs.By.{argOf}
+use Rattle.registers.specs.Meaning.{result, answer, putRes}
+use Rattle.arguments.specs.Operands.{argOf}
 use Rattle.stores.specs.declared.Made.{Made}
-use Rattle.stores.specs.Plan.{made}
+use Rattle.stores.specs.Meaning.{made}
 use Rattle.instructions.specs.Meaning.{asker}
 use Rattle.encoding.specs.declared.Instr.{Instr}
 use Rattle.console.specs.declared.ConsoleState.{ConsoleState}
 use Rattle.console.specs.declared.Sent.{Sent}
-use Rattle.console.specs.State.{consoleOf, Sends}
+use Rattle.console.specs.Meaning.{consoleOf, Sends}
 use Rattle.runtime.specs.declared.arrive.Performed.{Performed}
 use Rattle.runtime.specs.declared.perform.Served.{Served}
 use Rattle.runtime.specs.Meaning.{sent, performedRes, kept, keptMade, attempted, executedAt, servedTurn, Serves}
-use Rattle.memory.proofs.Laws.{over-none}
+use Rattle.memory.proofs.Laws.{over-no-cell}
 
 abbrev done : Performed → Served
 done e = record { full = false; e = e }
@@ -57,52 +58,53 @@ asks-out n h k = go (eqb n 6) refl h
     go false e q = eqb-true n 20 q
 
 -- an instruction that asks nothing
-after-result : (c : Core) (n : ℕ) (k : Console) (cost : ℕ) (b : Bool) (e : Error) (d : Core) → M.conclude cost n k (result tt b e d) ≡ M.afterAttempt (machine c n k) (attempted cost (result nothing b e d))
+after-result : (c d : Core) (n : ℕ) (k : Console) (cost : ℕ) (b : Bool) (e : Error) → M.conclude cost (machine d n k) (result tt b e d) ≡ M.afterAttempt (machine c n k) (attempted cost (result nothing b e d))
 unfolding M.afterAttempt M.serve M.conclude
-after-result c n k cost true e d = refl
-after-result c n k cost false e d = refl
+after-result c d n k cost true e = refl
+after-result c d n k cost false e = refl
 
 module _ (l : List ℤ) (q : List ℕ) (size : ℕ) (s : Registers) (k : ConsoleState) (i : Instr) where
   -- no cell waits
-  none-waits : cellCount l ≤ 10000 → overlay 4294967295 empty l ≡ l
-  none-waits h = over-none l 4294967295 empty (omega arith)
+  none-waits : cellCount l ≤ 10000 → overlay NO-CELL empty l ≡ l
+  none-waits h = over-no-cell l empty (omega arith)
 
   pub serves-kept : cellCount l ≤ 10000 → (p : Put) → answer nothing l p ≡ executedAt l s i → Serves l q size s k i (done (kept p k))
   serves-kept h p e =
       record {
-        is = λ o _ c n. ap (λ (x : List ℤ). M.conclude (i .cost) n (consoleOf k q o) (result tt (p .ok) (p .error) (core x (p .s)))) (none-waits h) ∙ after-result c n (consoleOf k q o) (i .cost) (p .ok) (p .error) (core l (p .s)) ∙ ap (λ (r : Res Request). M.afterAttempt (machine c n (consoleOf k q o)) (attempted (i .cost) r)) e;
+        is = λ o _ c n. ap (λ (x : List ℤ). M.conclude (i .cost) (machine (core x (p .s)) n (consoleOf k q o)) (result tt (p .ok) (p .error) (core x (p .s)))) (none-waits h) ∙ after-result c (core l (p .s)) n (consoleOf k q o) (i .cost) (p .ok) (p .error) ∙ ap (λ (r : Res Request). M.afterAttempt (machine c n (consoleOf k q o)) (attempted (i .cost) r)) e;
         room = λ _ t. absurd (true≢false (sym t));
       }
 
   pub serves-made : (d : Made) → made nothing l d ≡ executedAt l s i → Serves l q size s k i (done (keptMade d k))
   serves-made d e =
       record {
-        is = λ o _ c n. after-result c n (consoleOf k q o) (i .cost) (d .ok) (d .error) _ ∙ ap (λ (r : Res Request). M.afterAttempt (machine c n (consoleOf k q o)) (attempted (i .cost) r)) e;
+        is = λ o _ c n. after-result c (core (overlay (d .p .at) (d .p .v) l) (d .p .s)) n (consoleOf k q o) (i .cost) (d .ok) (d .error) ∙ ap (λ (r : Res Request). M.afterAttempt (machine c n (consoleOf k q o)) (attempted (i .cost) r)) e;
         room = λ _ t. absurd (true≢false (sym t));
       }
 
   -- in
-  pub serves-input : cellCount l ≤ 10000 → (port value : ℕ) (r : Reg) (k' : ConsoleState) (p : Put) → ok (reads port r) (core l s) ≡ executedAt l s i → ((o : List ℕ) → (value, consoleOf k' q o) ≡ readPort port (consoleOf k q o)) → putRes l p ≡ setRegister r (word (pos value)) (core l s) → Serves l q size s k i (done (kept p k'))
+  pub serves-input : cellCount l ≤ 10000 → (t : Registers) (port value : ℕ) (r : Reg) (k' : ConsoleState) (p : Put) → ok (reads port r) (core l t) ≡ executedAt l s i → ((o : List ℕ) → (value, consoleOf k' q o) ≡ readPort port (consoleOf k q o)) → putRes l p ≡ setRegister r (word (pos value)) (core l t) → Serves l q size s k i (done (kept p k'))
   unfolding M.afterAttempt M.serve
-  serves-input h port value r k' p e f g =
+  serves-input h t port value r k' p e f g =
       record {
         is = λ o _ c n.
-            ap (λ (x : List ℤ). M.conclude (i .cost) n (consoleOf k' q o) (result tt (p .ok) (p .error) (core x (p .s)))) (none-waits h)
-            ∙ ap (λ (x : Res (Unit {0})). M.conclude (i .cost) n (consoleOf k' q o) x) g
-            ∙ ap (λ (y : ℕ × Console). M.conclude (i .cost) n (y .1) (setRegister r (word (pos (y .0))) (core l s))) (f o)
+            ap (λ (x : List ℤ). M.conclude (i .cost) (machine (core x (p .s)) n (consoleOf k' q o)) (result tt (p .ok) (p .error) (core x (p .s)))) (none-waits h)
+            ∙ conclude-core (i .cost) (core l (p .s)) (machine c n (consoleOf k' q o)) (putRes l p)
+            ∙ ap (λ (x : Res (Unit {0})). M.conclude (i .cost) (machine c n (consoleOf k' q o)) x) g
+            ∙ ap (λ (y : ℕ × Console). M.conclude (i .cost) (machine c n (y .1)) (setRegister r (word (pos (y .0))) (core l t))) (f o)
             ∙ ap (λ (x : Res Request). M.afterAttempt (machine c n (consoleOf k q o)) (attempted (i .cost) x)) e;
-        room = λ _ t. absurd (true≢false (sym t));
+        room = λ _ z. absurd (true≢false (sym z));
       }
 
   -- out
-  pub serves-full : (port : ℕ) (w : ℤ) (p : Performed) → ok (writes port w) (core l s) ≡ executedAt l s i → ((q o : List ℕ) → length o ≡ size → true ≡ outputFull port (consoleOf k q o)) → Serves l q size s k i (record { full = true; e = p })
+  pub serves-full : (t : Registers) (port : ℕ) (w : ℤ) (p : Performed) → ok (writes port w) (core l t) ≡ executedAt l s i → ((q o : List ℕ) → length o ≡ size → true ≡ outputFull port (consoleOf k q o)) → Serves l q size s k i (record { full = true; e = p })
   unfolding M.afterAttempt M.serve
-  serves-full port w p e f =
+  serves-full t port w p e f =
       record {
         is = λ o h c n.
-            ap (λ (b : Bool). cond b (M.stops OUTPUT-FULL 0 (machine c n (consoleOf k q o))) (M.conclude (i .cost) n (writePort port w (consoleOf k q o)) (ok tt (core l s)))) (f q o h)
+            ap (λ (b : Bool). cond b (M.stops OUTPUT-FULL 0 (machine c n (consoleOf k q o))) (M.conclude (i .cost) (machine c n (writePort port w (consoleOf k q o))) (ok tt (core l t)))) (f q o h)
             ∙ ap (λ (x : Res Request). M.afterAttempt (machine c n (consoleOf k q o)) (attempted (i .cost) x)) e;
-        room = λ t _. absurd (true≢false t);
+        room = λ z _. absurd (true≢false z);
       }
 
   room-for : (port : ℕ) → ((q o : List ℕ) → length o ≡ size → false ≡ outputFull port (consoleOf k q o)) → port ≡ 111 → k .written < size
@@ -114,14 +116,15 @@ module _ (l : List ℤ) (q : List ℕ) (size : ℕ) (s : Registers) (k : Console
       let t : k .written < length (replicate {A = ℕ} size 0) = leb-false _ _ r in
       omega arith
 
-  pub serves-sent : cellCount l ≤ 10000 → (port : ℕ) (w : ℤ) (x : Sent) (error : Error) → ok (writes port w) (core l s) ≡ executedAt l s i → ((q o : List ℕ) → length o ≡ size → false ≡ outputFull port (consoleOf k q o)) → Sends k port w x → Serves l q size s k i (done (record { ok = true; error = error; s = s; at = 4294967295; v = empty; k = x .k; sends = x .sends; to = k .written; byte = x .byte }))
+  pub serves-sent : cellCount l ≤ 10000 → (t : Registers) (port : ℕ) (w : ℤ) (x : Sent) (error : Error) → ok (writes port w) (core l t) ≡ executedAt l s i → ((q o : List ℕ) → length o ≡ size → false ≡ outputFull port (consoleOf k q o)) → Sends k port w x → Serves l q size s k i (done (record { ok = true; error = error; s = t; at = NO-CELL; v = empty; k = x .k; sends = x .sends; to = k .written; byte = x .byte }))
   unfolding M.afterAttempt M.serve
-  serves-sent h port w x error e f g =
+  serves-sent h t port w x error e f g =
       record {
-        is = λ o t c n.
-            ap (λ (y : List ℤ). M.conclude (i .cost) n (consoleOf (x .k) q (sent (x .sends) (k .written) (x .byte) o)) (ok tt (core y s))) (none-waits h)
-            ∙ ap (λ (y : Console). M.conclude (i .cost) n y (ok tt (core l s))) (g .is q o)
-            ∙ ap (λ (b : Bool). cond b (M.stops OUTPUT-FULL 0 (machine c n (consoleOf k q o))) (M.conclude (i .cost) n (writePort port w (consoleOf k q o)) (ok tt (core l s)))) (f q o t)
+        is = λ o z c n.
+            ap (λ (y : List ℤ). M.conclude (i .cost) (machine (core y t) n (consoleOf (x .k) q (sent (x .sends) (k .written) (x .byte) o))) (ok tt (core y t))) (none-waits h)
+            ∙ conclude-core (i .cost) (core l t) (machine c n (consoleOf (x .k) q (sent (x .sends) (k .written) (x .byte) o))) (ok tt (core l t))
+            ∙ ap (λ (y : Console). M.conclude (i .cost) (machine c n y) (ok tt (core l t))) (g .is q o)
+            ∙ ap (λ (b : Bool). cond b (M.stops OUTPUT-FULL 0 (machine c n (consoleOf k q o))) (M.conclude (i .cost) (machine c n (writePort port w (consoleOf k q o))) (ok tt (core l t)))) (f q o z)
             ∙ ap (λ (y : Res Request). M.afterAttempt (machine c n (consoleOf k q o)) (attempted (i .cost) y)) e;
-        room = λ _ t. room-for port f (g .port-is t);
+        room = λ _ z. room-for port f (g .port-is z);
       }

@@ -1,6 +1,6 @@
 -- What the code's structs mean in the definition. Cells, queue and output record are lent beside them: l, q and o.
 use mathlib.Core.Path.{_≡_}
-use mathlib.Core.Bool.{Bool, true, false, cond}
+use mathlib.Core.Bool.{Bool, true, false, cond, _&&_}
 use mathlib.Core.List.{List}
 use Prim.Native.Nat.{ℕ, _+_, _<_, _≤_}
 use lib.IntN.{ℤ}
@@ -9,24 +9,27 @@ use Rattle.definition.specs.declared.Cell.{Cell}
 use Rattle.definition.specs.declared.Registers.{Registers}
 use Rattle.definition.specs.Exception.{Ending, exception, stop, OUTPUT-FULL}
 use Rattle.definition.specs.Memory.{empty}
+use Rattle.definition.specs.Registers.{interruptEnable}
+use Rattle.definition.specs.Io.{with-pending}
 use Rattle.definition.specs.Instructions.{Request, execute}
 use Rattle.definition.specs.Encoding.{Instruction, extractInstruction}
-use Rattle.definition.specs.Computer.{Core, Res, ok, err, core}
+use Rattle.definition.specs.Exec.{Core, Res, ok, err, core}
 use Rattle.definition.specs.Runtime.{Machine, machine, orInstruction, saved, Executed}
 use Rattle.definition.specs.Runtime as M
-use Rattle.memory.specs.Overlay.{overlay}
-use Rattle.registers.specs.Answer.{result}
+use Rattle.memory.specs.Overlay.{overlay, NO-CELL}
+use Rattle.registers.specs.Meaning.{result}
 use Rattle.registers.specs.declared.Put.{Put}
 use Rattle.stores.specs.declared.Made.{Made}
 use Rattle.encoding.specs.declared.Instr.{Instr}
-use Rattle.encoding.specs.Instr.{instrOf}
+use Rattle.encoding.specs.Meaning.{instrOf}
 use Rattle.console.specs.declared.ConsoleState.{ConsoleState}
-use Rattle.console.specs.State.{consoleOf}
+use Rattle.console.specs.Meaning.{consoleOf}
 use Rattle.runtime.specs.declared.State.{State}
 use Rattle.runtime.specs.declared.ending.Ends.{Ends}
 use Rattle.runtime.specs.declared.fetch.Fetched.{Fetched}
 use Rattle.runtime.specs.declared.arrive.Performed.{Performed}
 use Rattle.runtime.specs.declared.arrive.Arrival.{Arrival}
+use Rattle.runtime.specs.declared.arrive.Polled.{Polled}
 use Rattle.runtime.specs.declared.perform.Served.{Served}
 use Rattle.runtime.specs.declared.decide.Decision.{Decision}
 
@@ -74,10 +77,19 @@ turnAt enters stops n d m = cond enters (M.enters n m) (cond stops (M.stops n d 
 abbrev pub turnOf : List ℤ → List ℕ → List ℕ → Arrival → M.Turn
 turnOf l q o a = turnAt (a .enters) (a .stops) (a .number) (a .detail) (arrivedAt l q o a)
 
+-- Is an interrupt due, and the console after the poll: "if I is set, the pending mark is taken".
+abbrev pub polled : Registers → ConsoleState → Polled
+polled s k =
+    record { due = interruptEnable s && k .marks .pending; k = cond (interruptEnable s) (record { marks = with-pending false (k .marks); start = k .start; count = k .count; written = k .written }) k }
+
+-- The machine as the executed instruction e leaves it, before its cost is added.
+abbrev pub performedAt : List ℤ → List ℕ → List ℕ → Performed → ℕ → Machine
+performedAt l q o e cycles =
+    machine (core (overlay (e .at) (e .v) l) (e .s)) cycles (consoleOf (e .k) q (sent (e .sends) (e .to) (e .byte) o))
+
 -- The executed instruction e, with its cost, from so many cycles on.
 abbrev pub concluded : List ℤ → List ℕ → List ℕ → Performed → ℕ → ℕ → M.Turn
-concluded l q o e cost cycles =
-    M.conclude cost cycles (consoleOf (e .k) q (sent (e .sends) (e .to) (e .byte) o)) (performedRes l e)
+concluded l q o e cost cycles = M.conclude cost (performedAt l q o e cycles) (performedRes l e)
 
 pub record Concludes (e : Performed) (cost cycles : ℕ) (a : Arrival) : Type 0 where
   pub is : (l : List ℤ) (q o : List ℕ) → turnOf l q o a ≡ concluded l q o e cost cycles
@@ -89,7 +101,7 @@ pub record Concludes (e : Performed) (cost cycles : ℕ) (a : Arrival) : Type 0 
 
 abbrev pub kept : Put → ConsoleState → Performed
 kept q k =
-    record { ok = q .ok; error = q .error; s = q .s; at = 4294967295; v = empty; k = k; sends = false; to = 0; byte = 0 }
+    record { ok = q .ok; error = q .error; s = q .s; at = NO-CELL; v = empty; k = k; sends = false; to = 0; byte = 0 }
 
 abbrev pub keptMade : Made → ConsoleState → Performed
 keptMade d k =

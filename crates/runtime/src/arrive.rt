@@ -2,12 +2,10 @@
 use console::ConsoleState;
 use definition::Cell;
 use definition::Error;
-use definition::Marks;
 use definition::Registers;
 ghost use mathlib.Core.Path.{_≡_};
-ghost use mathlib.Core.Bool.{false};
 ghost use Prim.Native.Nat.{_+_, _<_, _^_};
-ghost use Rattle.runtime.specs.Meaning.{Concludes};
+ghost use Rattle.runtime.specs.Meaning.{polled, Concludes};
 
 // An executed instruction: how it ended, the registers, the cell write that waits (v at `at`), the console, and the byte that waits.
 // Where ok, `error` is a filler.
@@ -39,24 +37,33 @@ pub struct Arrival {
     pub byte: u8,
 }
 
-// "if I is set, the pending mark is taken": a poll leaves the other two, and carrying them past it keeps the run loop as fast (docs/DECISIONS.md).
-fn taken(k: ConsoleState) -> ConsoleState
-    ensures { λ r. ⌜ r ≡ record { marks = record { enable = k .marks .enable; flag = k .marks .flag; pending = false }; start = k .start; count = k .count; written = k .written } ⌝ }
+// Was an interrupt due, and the console after the poll.
+pub struct Polled {
+    pub due: bool,
+    pub k: ConsoleState,
+}
+
+// Computer::poll_hardware_interrupt: "if I is set, the pending mark is taken". The three marks go through the poll in place.
+fn poll(s: Registers, k: ConsoleState) -> Polled
+    ensures { λ r. ⌜ r ≡ polled s k ⌝ }
 {
-    let old = k.marks;
-    let polled = marks::interrupt_polled(old);
-    let left = polled.marks;
-    let marks = Marks {
-        enable: old.enable,
-        flag: old.flag,
-        pending: left.pending,
-    };
-    ConsoleState {
-        marks,
-        start: k.start,
-        count: k.count,
-        written: k.written,
+    let enabled = registers::interrupt_enable(s);
+    if enabled {
+        let old = k.marks;
+        let polled = marks::interrupt_polled(old);
+        let left = polled.marks;
+        let after = ConsoleState {
+            marks: left,
+            start: k.start,
+            count: k.count,
+            written: k.written,
+        };
+        return Polled {
+            due: polled.was,
+            k: after,
+        };
     }
+    Polled { due: false, k }
 }
 
 fn arrived(
@@ -96,13 +103,11 @@ pub fn conclude(e: Performed, cost: u64, cycles: u64) -> Arrival
 {
     let k = e.k;
     if e.ok {
-        let marks = k.marks;
         let s = e.s;
         let n = cycles + cost;
-        if registers::interrupt_enable(s) & marks.pending {
-            return arrived(e, true, false, 0, 0, n, taken(k));
-        }
-        return arrived(e, false, false, 0, 0, n, k);
+        let polled = poll(s, k);
+        let after = polled.k;
+        return arrived(e, polled.due, false, 0, 0, n, after);
     }
     let error = e.error;
     let x = super::ending::ending(error);

@@ -8,6 +8,7 @@ ghost use mathlib.Core.Bool.{true, false};
 ghost use lib.IntN.{pos};
 ghost use Rattle.definition.specs.Memory.{cellCount};
 ghost use Rattle.definition.specs.Runtime.{enteredRegisters};
+ghost use Rattle.memory.specs.Overlay.{NO-CELL};
 ghost use Rattle.runtime.specs.Meaning.{Decides};
 
 // What a step does: a cell write (v at `at`), a byte, what exception entry saves, and the machine afterwards.
@@ -89,7 +90,7 @@ fn entered(a: Arrival) -> Decision
 
 // Stop 7: nothing is written, and the machine is the one before the step.
 fn full(m: State) -> Decision
-    ensures { λ r. ⌜ r ≡ record { completed = false; stop = 7; detail = 0; at = 4294967295; v = record { tag = pos 0; first = pos 0; second = pos 0 }; sends = false; to = 0; byte = 0; enters = false; pc = 0; sr = pos 0; code = 0; m = m } ⌝ }
+    ensures { λ r. ⌜ r ≡ record { completed = false; stop = 7; detail = 0; at = NO-CELL; v = record { tag = pos 0; first = pos 0; second = pos 0 }; sends = false; to = 0; byte = 0; enters = false; pc = 0; sr = pos 0; code = 0; m = m } ⌝ }
 {
     let v = Cell {
         tag: 0,
@@ -100,7 +101,7 @@ fn full(m: State) -> Decision
         completed: false,
         stop: 7,
         detail: 0,
-        at: 4294967295,
+        at: memory::NO_CELL,
         v,
         sends: false,
         to: 0,

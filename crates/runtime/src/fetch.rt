@@ -10,7 +10,6 @@ ghost use Prim.Native.Nat.{ℕ, _<_, _≤_};
 ghost use Rattle.definition.specs.Constants.{CELLS-MOST};
 ghost use Rattle.definition.specs.Memory.{cellCount, cellAt};
 ghost use Rattle.definition.specs.Encoding.{sound};
-ghost use Rattle.encoding.specs.Table.{costTable};
 ghost use Rattle.runtime.specs.Meaning.{Decodes, Fetches};
 
 // The instruction at pc, with pc moved on. Where not ok, `i` is a filler.
@@ -38,8 +37,8 @@ fn no_instruction() -> Instr
 }
 
 // "A fetched cell that is no instruction raises code 2 with pc moved on."
-fn decoded(costs: &[u8; 1188], v: Cell, s: Registers) -> Fetched
-    requires { do ⌜ sound v ≡ true ⌝; ⌜ now costs ≡ costTable ⌝ }
+fn decoded(v: Cell, s: Registers) -> Fetched
+    requires { ⌜ sound v ≡ true ⌝ }
     ensures { λ r. ⌜ Decodes s r v ⌝ }
 {
     let tag = v.tag;
@@ -54,14 +53,14 @@ fn decoded(costs: &[u8; 1188], v: Cell, s: Registers) -> Fetched
     Fetched {
         ok: true,
         error: Error::Reset,
-        i: encoding::decode(costs, (tag as u32) - 2, v.first, v.second),
+        i: encoding::decode((tag as u32) - 2, v.first, v.second),
         s,
     }
 }
 
 // "Fetch at pc outside the cells raises code 5 with pc unmoved."
-pub fn fetch(cells: &[i64], costs: &[u8; 1188], s: Registers) -> Fetched
-    requires { do ⌜ cellCount (now cells) ≤ CELLS-MOST ⌝; ⌜ ((n : ℕ) → n < cellCount (now cells) → sound (cellAt (now cells) n) ≡ true) ⌝; ⌜ now costs ≡ costTable ⌝ }
+pub fn fetch(cells: &[i64], s: Registers) -> Fetched
+    requires { do ⌜ cellCount (now cells) ≤ CELLS-MOST ⌝; ⌜ ((n : ℕ) → n < cellCount (now cells) → sound (cellAt (now cells) n) ≡ true) ⌝ }
     ensures { λ r. ⌜ Fetches (now (cells .entry)) s r ⌝ }
 {
     let pc = s.pc;
@@ -69,7 +68,7 @@ pub fn fetch(cells: &[i64], costs: &[u8; 1188], s: Registers) -> Fetched
     if n < cells.len() / 3 {
         let mut t = s;
         t.pc = pc + 1;
-        return decoded(costs, memory::get_cell(cells, n), t);
+        return decoded(memory::get_cell(cells, n), t);
     }
     Fetched {
         ok: false,

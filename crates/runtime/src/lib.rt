@@ -1,4 +1,5 @@
-// mod.rs: fetch, exception entry, poll, a step and a run.
+// mod.rs in parts: fetch, an instruction with the console's part, the poll, exception entry, and what a step writes. The step and the run are
+// in crate computer.
 use console::ConsoleState;
 use definition::Registers;
 

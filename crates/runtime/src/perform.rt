@@ -37,7 +37,7 @@ pub fn keep(q: Put, k: ConsoleState) -> Performed
         ok: q.ok,
         error,
         s,
-        at: 4294967295,
+        at: memory::NO_CELL,
         v,
         k,
         sends: false,
@@ -81,14 +81,15 @@ fn input(cells: &[i64], queue: &[u8], s: Registers, k: ConsoleState, i: Instr) -
     let x = i.x;
     let y = i.y;
     let a = instructions::in_request(s, x, y.reg);
+    let t = a.s;
     if a.ok {
         let got = console::read_port(queue, k, a.port);
         let after = got.k;
-        let q = registers::put_reg(s, y.reg, memory::address_cell(got.value as u32));
+        let q = registers::put_reg(t, y.reg, memory::address_cell(got.value as u32));
         return done(keep(q, after));
     }
     let error = a.error;
-    done(keep(registers::refuse(s, error), k))
+    done(keep(registers::refuse(t, error), k))
 }
 
 // out: nothing where the byte would not fit.
@@ -106,23 +107,24 @@ fn output(
     let x = i.x;
     let y = i.y;
     let a = instructions::out_request(cells, s, x, y);
+    let t = a.s;
     if a.ok {
         if console::output_full(k, a.port, size) {
             return Served {
                 full: true,
-                e: keep(registers::accept(s), k),
+                e: keep(registers::accept(t), k),
             };
         }
         let sent = console::write_port(k, a.port, a.w);
         let after = sent.k;
-        let mut e = keep(registers::accept(s), after);
+        let mut e = keep(registers::accept(t), after);
         e.sends = sent.sends;
         e.to = k.written;
         e.byte = sent.byte;
         return done(e);
     }
     let error = a.error;
-    done(keep(registers::refuse(s, error), k))
+    done(keep(registers::refuse(t, error), k))
 }
 
 // in or out.

@@ -1,23 +1,21 @@
 // instructions.rs, the instructions that may write a cell. None writes: each answers the registers and the write that waits.
 use arguments::Arg;
-use definition::Address;
 use definition::Cell;
 use definition::Error;
-use definition::Found;
 use definition::Registers;
-use definition::Word;
 use registers::Put;
 ghost use mathlib.Core.Path.{_≡_};
 ghost use Prim.Native.Nat.{_≤_};
 ghost use Rattle.definition.specs.Constants.{CELLS-MOST};
 ghost use Rattle.definition.specs.Memory.{cellCount};
-ghost use Rattle.definition.specs.Registers.{regAt};
-ghost use Rattle.definition.specs.Computer.{core, write, push};
+ghost use Rattle.definition.specs.Registers.{regAt, refused};
+ghost use Rattle.definition.specs.Exec.{core, write, push};
 ghost use Rattle.definition.specs.Instructions.{call, fas, pushOp, st, swap, swapBack};
-ghost use Rattle.arguments.specs.By.{argOf};
-ghost use Rattle.stores.specs.Plan.{madeRes, written, unwritten};
+ghost use Rattle.registers.specs.Meaning.{settled};
+ghost use Rattle.arguments.specs.Operands.{argOf};
+ghost use Rattle.stores.specs.Meaning.{madeRes, written, unwritten, setAfter};
 
-// The registers, and the one cell write that waits: v at `at`, which is outside where there is none.
+// The registers, and the one cell write that waits: v at `at`, which is NO_CELL where there is none.
 pub struct Plan {
     pub s: Registers,
     pub at: u32,
@@ -45,19 +43,26 @@ pub fn with_cell(q: Put, n: u32, v: Cell) -> Made
     }
 }
 
-// The answer q, and nothing to be written: no list has so many cells.
+// The answer q, and nothing to be written.
 pub fn with_none(q: Put) -> Made
     ensures { λ d. ⌜ d ≡ unwritten q ⌝ }
 {
     with_cell(
         q,
-        4294967295,
+        memory::NO_CELL,
         Cell {
             tag: 0,
             first: 0,
             second: 0,
         },
     )
+}
+
+// An error, and nothing to be written.
+fn fails(s: Registers, error: Error) -> Made
+    ensures { λ d. ⌜ d ≡ unwritten (settled s (refused error)) ⌝ }
+{
+    with_none(registers::refuse(s, error))
 }
 
 // Computer::write
@@ -69,7 +74,7 @@ pub fn write_at(cells: &[i64], s: Registers, n: u32, v: Cell) -> Made
     if at < cells.len() / 3 {
         with_cell(registers::accept(s), n, v)
     } else {
-        with_none(registers::refuse(s, Error::InvalidMemoryAccess))
+        fails(s, Error::InvalidMemoryAccess)
     }
 }
 
@@ -88,10 +93,14 @@ pub fn push(cells: &[i64], s: Registers, x: Arg) -> Made
     requires { do ⌜ cellCount (now cells) ≤ CELLS-MOST ⌝ }
     ensures { λ d. ⌜ madeRes (now (cells .entry)) d ≡ pushOp (argOf x) (core (now (cells .entry)) s) ⌝ }
 {
-    match arguments::extract_cell(cells, registers::get_reg(s, x.reg), x.mode, x.number) {
-        Found::Here(v) => push_cell(cells, s, v),
-        Found::Outside => with_none(registers::refuse(s, Error::Extract)),
+    let given = arguments::cell_of(cells, s, x);
+    let t = given.s;
+    if given.ok {
+        let v = given.value;
+        return push_cell(cells, t, v);
     }
+    let error = given.error;
+    fails(t, error)
 }
 
 // "st takes a word, so empty becomes word 0 and an instruction stops."
@@ -99,13 +108,19 @@ pub fn st(cells: &[i64], s: Registers, r: u32, y: Arg) -> Made
     requires { do ⌜ cellCount (now cells) ≤ CELLS-MOST ⌝ }
     ensures { λ d. ⌜ madeRes (now (cells .entry)) d ≡ st (regAt r) (argOf y) (core (now (cells .entry)) s) ⌝ }
 {
-    match memory::extract_word(registers::get_reg(s, r)) {
-        Word::Is(w) => match arguments::resolve(registers::get_reg(s, y.reg), y.mode, y.number) {
-            Address::At(n) => write_at(cells, s, n, memory::word_cell(w)),
-            Address::NotAddress => with_none(registers::refuse(s, Error::CellError)),
-        },
-        Word::NotWord => with_none(registers::refuse(s, Error::Extract)),
+    let given = arguments::register_word(s, r);
+    let t = given.s;
+    if given.ok {
+        let place = arguments::address_of(t, y);
+        let u = place.s;
+        if place.ok {
+            return write_at(cells, u, place.value, memory::word_cell(given.value));
+        }
+        let error = place.error;
+        return fails(u, error);
     }
+    let error = given.error;
+    fails(t, error)
 }
 
 // "call pushes pc before it reads its operand."
@@ -114,30 +129,20 @@ pub fn call(cells: &[i64], s: Registers, x: Arg) -> Made
     ensures { λ d. ⌜ madeRes (now (cells .entry)) d ≡ call (argOf x) (core (now (cells .entry)) s) ⌝ }
 {
     let d = push_cell(cells, s, memory::address_cell(s.pc));
-    let ok = d.ok;
     let p = d.p;
-    if ok {
+    if d.ok {
         let v = p.v;
-        let mut t = p.s;
-        match arguments::word_over(
-            cells,
-            p.at,
-            v,
-            registers::get_reg(t, x.reg),
-            x.mode,
-            x.number,
-        ) {
-            Word::Is(w) => if (0 <= w) & (w <= 4294967295) {
-                t.pc = w as u32;
-                with_cell(registers::accept(t), p.at, v)
-            } else {
-                with_cell(registers::refuse(t, Error::Extract), p.at, v)
-            },
-            Word::NotWord => with_cell(registers::refuse(t, Error::Extract), p.at, v),
+        let t = p.s;
+        let target = arguments::target_over(cells, p.at, v, t, x);
+        let mut u = target.s;
+        if target.ok {
+            u.pc = target.value;
+            return with_cell(registers::accept(u), p.at, v);
         }
-    } else {
-        d
+        let error = target.error;
+        return with_cell(registers::refuse(u, error), p.at, v);
     }
+    d
 }
 
 // "fas writes word 1 before the register is set, so a refused register leaves the cell changed."
@@ -145,13 +150,33 @@ pub fn fas(cells: &[i64], s: Registers, x: Arg, r: u32) -> Made
     requires { do ⌜ cellCount (now cells) ≤ CELLS-MOST ⌝ }
     ensures { λ d. ⌜ madeRes (now (cells .entry)) d ≡ fas (argOf x) (regAt r) (core (now (cells .entry)) s) ⌝ }
 {
-    match arguments::resolve(registers::get_reg(s, x.reg), x.mode, x.number) {
-        Address::At(n) => match memory::get(cells, n) {
-            Found::Here(v) => with_cell(registers::put_reg(s, r, v), n, memory::word_cell(1)),
-            Found::Outside => with_none(registers::refuse(s, Error::InvalidMemoryAccess)),
-        },
-        Address::NotAddress => with_none(registers::refuse(s, Error::CellError)),
+    let place = arguments::address_of(s, x);
+    let t = place.s;
+    if place.ok {
+        let old = arguments::read(cells, t, place.value);
+        let u = old.s;
+        if old.ok {
+            let v = old.value;
+            return set_after(write_at(cells, u, place.value, memory::word_cell(1)), r, v);
+        }
+        let error = old.error;
+        return fails(u, error);
     }
+    let error = place.error;
+    fails(t, error)
+}
+
+// A register set to v after the write d, if that was made.
+fn set_after(d: Made, r: u32, v: Cell) -> Made
+    ensures { λ e. ⌜ e ≡ setAfter (regAt r) v d ⌝ }
+{
+    let p = d.p;
+    if d.ok {
+        let s = p.s;
+        let w = p.v;
+        return with_cell(registers::put_reg(s, r, v), p.at, w);
+    }
+    d
 }
 
 // The second half of swap: the register's old cell goes to the operand, found from the new registers.
@@ -162,10 +187,13 @@ pub fn swap_back(cells: &[i64], s: Registers, x: Arg, v: Cell) -> Made
     if x.mode == 2 {
         return with_none(registers::put_reg(s, x.reg, v));
     }
-    match arguments::resolve(registers::get_reg(s, x.reg), x.mode, x.number) {
-        Address::At(n) => write_at(cells, s, n, v),
-        Address::NotAddress => with_none(registers::refuse(s, Error::CellError)),
+    let place = arguments::address_of(s, x);
+    let t = place.s;
+    if place.ok {
+        return write_at(cells, t, place.value, v);
     }
+    let error = place.error;
+    fails(t, error)
 }
 
 // "swap writes its register first and resolves the memory address from the new registers."
@@ -173,17 +201,17 @@ pub fn swap(cells: &[i64], s: Registers, x: Arg, r: u32) -> Made
     requires { do ⌜ cellCount (now cells) ≤ CELLS-MOST ⌝ }
     ensures { λ d. ⌜ madeRes (now (cells .entry)) d ≡ swap (argOf x) (regAt r) (core (now (cells .entry)) s) ⌝ }
 {
-    match arguments::extract_cell(cells, registers::get_reg(s, x.reg), x.mode, x.number) {
-        Found::Here(v) => {
-            let q = registers::put_reg(s, r, v);
-            let ok = q.ok;
-            let t = q.s;
-            if ok {
-                swap_back(cells, t, x, registers::get_reg(s, r))
-            } else {
-                with_none(q)
-            }
+    let given = arguments::cell_of(cells, s, x);
+    let t = given.s;
+    if given.ok {
+        let v = given.value;
+        let q = registers::put_reg(t, r, v);
+        let u = q.s;
+        if q.ok {
+            return swap_back(cells, u, x, registers::get_reg(t, r));
         }
-        Found::Outside => with_none(registers::refuse(s, Error::Extract)),
+        return with_none(q);
     }
+    let error = given.error;
+    fails(t, error)
 }

@@ -11,17 +11,18 @@ use Rattle.definition.specs.declared.Ran.{Ran}
 use Rattle.definition.specs.declared.Raised.{Raised}
 use Rattle.definition.specs.Constants.{CYCLES-END}
 use Rattle.definition.specs.Memory.{cellCount, empty}
-use Rattle.definition.specs.Computer.{core}
+use Rattle.definition.specs.Exec.{core}
 use Rattle.definition.specs.Io.{Console}
 use Rattle.definition.specs.Runtime as M
 use Rattle.definition.specs.Runtime.{Machine, machine, Run}
 use Rattle.definition.specs.Calls.{machineOf, rowOf, Called, called, passes, Lent, lent, lentMachine, lentOf, runCheck, ran, runRefused, runCall, raiseCheck, quietMachine, raised, raise}
-use Rattle.definition.proofs.Row.{AcceptedMachine, accepted-machine}
+use Rattle.definition.specs.Accepted.{AcceptedMachine}
+use Rattle.definition.proofs.Row.{accepted-machine}
 use Rattle.definition.proofs.Accepted.{call-is, run-ends}
 use Rattle.console.specs.declared.ConsoleState.{ConsoleState}
-use Rattle.console.specs.State.{consoleOf}
-use Rattle.memory.proofs.Laws.{over-none}
-use Rattle.memory.specs.Overlay.{overlay}
+use Rattle.console.specs.Meaning.{consoleOf}
+use Rattle.memory.proofs.Laws.{over-no-cell}
+use Rattle.memory.specs.Overlay.{overlay, NO-CELL}
 use Rattle.runtime.specs.declared.State.{State}
 use Rattle.runtime.specs.declared.arrive.Arrival.{Arrival}
 use Rattle.runtime.specs.declared.decide.Decision.{Decision}
@@ -40,6 +41,10 @@ unfolding machineOf
 state-is l q o row = refl
 
 -- ---- run
+
+-- the budget that a run was given is the one that is asked about
+pub on-budget : (n : ℕ) (m : Machine) {r : Run} → r ≡ M.run n m → (b : ℕ) → n ≡ b → r ≡ M.run b m
+on-budget n m f b e = f ∙ ap (λ (k : ℕ). M.run k m) e
 
 module _ (l : List ℤ) (q o : List ℕ) (row : List ℤ) (h : passes (runCheck (lent l q o row)) ≡ true) where
   pub run-accepted : AcceptedMachine (machineAt l q o (rowState row))
@@ -65,14 +70,14 @@ run-refused b l h = sym (ap (λ (t : Bool). cond t (ran (M.run b (lentMachine l)
 -- the step that does nothing but enter
 abbrev pub raising : State → ℕ → Arrival
 raising m code =
-    record { enters = true; stops = false; number = code; detail = 0; s = m .s; at = 4294967295; v = empty; cycles = m .cycles; k = m .k; sends = false; to = 0; byte = 0 }
+    record { enters = true; stops = false; number = code; detail = 0; s = m .s; at = NO-CELL; v = empty; cycles = m .cycles; k = m .k; sends = false; to = 0; byte = 0 }
 
 module _ (l row : List ℤ) (code : ℕ) (d : Decision) (few : cellCount l ≤ 10000) (h : Decides l (rowState row) (raising (rowState row) code) d) where
   decided-is : decidedOf l [] [] d ≡ M.limit (quietMachine l row) (M.recover code (quietMachine l row))
   unfolding M.settle machineOf
   decided-is =
       h .is [] []
-      ∙ ap (λ (x : List ℤ). M.limit (machineAt l [] [] (rowState row)) (M.recover code (machineAt x [] [] (rowState row)))) (over-none l 4294967295 empty (omega arith))
+      ∙ ap (λ (x : List ℤ). M.limit (machineAt l [] [] (rowState row)) (M.recover code (machineAt x [] [] (rowState row)))) (over-no-cell l empty (omega arith))
 
   raise-is : passes (raiseCheck l row code) ≡ true → raised l row (M.limit (quietMachine l row) (M.recover code (quietMachine l row))) ≡ raise l row code
   unfolding raise

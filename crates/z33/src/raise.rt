@@ -7,10 +7,11 @@ ghost use mathlib.Core.Path.{_≡_};
 ghost use mathlib.Core.Bool.{true, false};
 ghost use lib.IntN.{pos};
 ghost use Rattle.definition.specs.Calls.{called, raise};
+ghost use Rattle.memory.specs.Overlay.{NO-CELL};
 
 // A step that arrives at entry with this code and has done nothing else.
 pub fn raising(m: State, code: u32) -> Arrival
-    ensures { λ r. ⌜ r ≡ record { enters = true; stops = false; number = code; detail = 0; s = m .s; at = 4294967295; v = record { tag = pos 0; first = pos 0; second = pos 0 }; cycles = m .cycles; k = m .k; sends = false; to = 0; byte = 0 } ⌝ }
+    ensures { λ r. ⌜ r ≡ record { enters = true; stops = false; number = code; detail = 0; s = m .s; at = NO-CELL; v = record { tag = pos 0; first = pos 0; second = pos 0 }; cycles = m .cycles; k = m .k; sends = false; to = 0; byte = 0 } ⌝ }
 {
     let s = m.s;
     let k = m.k;
@@ -25,7 +26,7 @@ pub fn raising(m: State, code: u32) -> Arrival
         number: code,
         detail: 0,
         s,
-        at: 4294967295,
+        at: memory::NO_CELL,
         v,
         cycles: m.cycles,
         k,
@@ -42,7 +43,7 @@ pub extern "C" fn z33_raise(cells: &mut [i64], row: &mut [i64], code: u64) -> Ra
 {
     let d = refusals::raise_check(cells, row, code);
     if d.refusal == 0 {
-        let m = super::run::state(row);
+        let m = super::state(row);
         let a = raising(m, code as u32);
         let x = runtime::decide::decide(cells, m, a);
         if x.completed {

@@ -1,24 +1,18 @@
 // "run (cells, queue, output, row)"
 use definition::Ran;
-use runtime::State;
 ghost use mathlib.Core.Path.{_≡_};
-ghost use Prim.Native.Nat.{_<_, _^_};
-ghost use lib.ListN.{length};
-ghost use Rattle.definition.specs.Calls.{at, called, lent, runCall};
-ghost use Rattle.definition.specs.Computer.{core};
-ghost use Rattle.definition.specs.Runtime.{machine};
-ghost use Rattle.row.specs.Row.{Below};
-ghost use Rattle.z33.specs.Meaning.{rowState};
+ghost use Rattle.definition.specs.Calls.{called, lent, runCall};
 
-// The machine in an accepted row.
-pub fn state(row: &[i64]) -> State
-    requires { ⌜ (length (now row) ≡ 16) × (Below (2 ^ 32) (at 7 (now row)) × Below (2 ^ 32) (at 8 (now row))) ⌝ }
-    ensures { λ r. ⌜ r ≡ rowState (now (row .entry)) ⌝ }
+// The answer of a run that was taken.
+fn ran(stop: u32, detail: u32, steps: u32) -> Ran
+    ensures { λ r. ⌜ r ≡ record { refusal = 0; place = 0; stop = stop; detail = detail; steps = steps } ⌝ }
 {
-    State {
-        s: row::registers(row),
-        cycles: row::number_at(row, 9),
-        k: row::console_state(row),
+    Ran {
+        refusal: 0,
+        place: 0,
+        stop: stop as u64,
+        detail: detail as u64,
+        steps: steps as u64,
     }
 }
 
@@ -35,19 +29,13 @@ pub extern "C" fn z33_run(
 {
     let d = refusals::run_check(cells, queue, output, row);
     if d.refusal == 0 {
-        let m = state(row);
+        let m = super::state(row);
         let e = computer::run(cells, queue, output, m, budget);
         let after = e.m;
         let s = after.s;
         let k = after.k;
         row::write_row(row, s, after.cycles, k);
-        return Ran {
-            refusal: 0,
-            place: 0,
-            stop: e.stop as u64,
-            detail: e.detail as u64,
-            steps: e.steps as u64,
-        };
+        return ran(e.stop, e.detail, e.steps);
     }
     Ran {
         refusal: d.refusal,

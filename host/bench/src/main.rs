@@ -6,9 +6,10 @@ mod clock;
 mod programs;
 
 use judge::Judge;
+use layout::Row;
 use programs::Program;
 
-type Machine = (Vec<i64>, [i64; 16]);
+type Machine = (Vec<i64>, Row);
 
 const QUEUE: usize = 256;
 const OUTPUT: usize = 4_096;
@@ -91,6 +92,21 @@ fn growth(program: &Program, most: u32) {
     }
 }
 
+/// What `z33_exercise` takes a cell, at its best of so many rounds.
+fn exercise(cells: usize, rounds: usize) {
+    let mut image = vec![0; 3 * cells];
+    let spent = (0..rounds as u64).map(|seed| {
+        clock::time(|| {
+            z33::exercise(&mut image[..], seed);
+        })
+    });
+    let a_cell = spent.min().expect("a round") as f64 / cells as f64;
+    println!(
+        "an exercise load of {cells} cells: {a_cell:.2} ns a cell, {:.0} million cells a second",
+        1e3 / a_cell
+    );
+}
+
 fn alone(machine: &str, name: &str, steps: u32) {
     let (_, run) = MACHINES.iter().find(|m| m.0 == machine).expect("original, plain or library");
     let programs = programs::all();
@@ -109,6 +125,8 @@ fn measure(steps: u32, rounds: usize) {
         acceptance(kind, 0);
         acceptance(kind, 1);
     }
+    exercise(10_000, 100 * rounds);
+    exercise(1_000_000, 5 * rounds);
     growth(&programs[0], steps.saturating_mul(5));
 }
 

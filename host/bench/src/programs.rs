@@ -1,82 +1,85 @@
 //! The five loops, as cells. None of them touches the console.
 
-const CELLS: usize = 10_000;
-const A: i64 = 0;
-const B: i64 = 1;
+use layout::cell::{self, EMPTY, word};
+use layout::form::{NONE, dir, idx, imm, ind, instruction, reg};
+use layout::limit::CELLS_MOST;
+use layout::memory::INTERRUPT_HANDLER;
+use layout::op::{ADD, CALL, CMP, JMP, JNE, LD, MUL, POP, PUSH, RTI, RTN, ST, SUB, TRAP, XOR};
+use layout::reg::{A, B};
+use layout::{Cell, ROW, Row, at, row};
 
 pub struct Program {
     pub name: &'static str,
     pub cells: Vec<i64>,
-    pub row: [i64; 16],
+    pub row: Row,
 }
 
-fn tag(op: i64, m1: i64, m2: i64, r1: i64, r2: i64) -> i64 {
-    2 + ((op * 36 + m1 * 6 + m2) * 25 + r1 * 5 + r2)
-}
-
-fn program(name: &'static str, lines: &[(usize, i64, i64, i64)]) -> Program {
-    let mut cells = vec![0; 3 * CELLS];
-    for &(address, tag, first, second) in lines {
-        cells[3 * address..3 * address + 3].copy_from_slice(&[tag, first, second]);
+fn program(name: &'static str, lines: &[(usize, Cell)]) -> Program {
+    let mut cells = vec![0; cell::LENGTH * CELLS_MOST];
+    for (address, line) in lines {
+        cell::put(&mut cells, *address, *line);
     }
-    let mut row = [0; 16];
-    row[3..6].copy_from_slice(&[1, 300, 0]);
-    row[7] = 1_000;
+    let mut row = [0; ROW];
+    row::put_cell(&mut row, at::B, word(300));
+    row[at::SP] = 1_000;
     Program { name, cells, row }
 }
 
 pub fn all() -> Vec<Program> {
-    let jmp = |to| (tag(7, 1, 0, 0, 0), to, 0);
-    let at = |address: usize, (tag, first, second): (i64, i64, i64)| (address, tag, first, second);
+    let again = instruction(JMP, imm(0), NONE);
     vec![
         program(
             "a  add mul xor sub cmp jne",
             &[
-                (0, tag(0, 1, 2, 0, A), 3, 0),
-                (1, tag(15, 1, 2, 0, A), 5, 0),
-                (2, tag(32, 2, 2, B, A), 0, 0),
-                (3, tag(29, 1, 2, 0, A), 7, 0),
-                (4, tag(3, 1, 2, 0, B), 0, 0),
-                (5, tag(9, 1, 0, 0, 0), 0, 0),
+                (0, instruction(ADD, imm(3), reg(A))),
+                (1, instruction(MUL, imm(5), reg(A))),
+                (2, instruction(XOR, reg(B), reg(A))),
+                (3, instruction(SUB, imm(7), reg(A))),
+                (4, instruction(CMP, imm(0), reg(B))),
+                (5, instruction(JNE, imm(0), NONE)),
             ],
         ),
-        program("a' add jmp", &[(0, tag(0, 1, 2, 0, A), 1, 0), at(1, jmp(0))]),
+        program("a' add jmp", &[(0, instruction(ADD, imm(1), reg(A))), (1, again)]),
         program(
             "b  ld st direct indirect indexed",
             &[
-                (0, tag(14, 3, 2, 0, A), 310, 0),
-                (1, tag(28, 2, 3, A, 0), 0, 311),
-                (2, tag(14, 4, 2, B, A), 0, 0),
-                (3, tag(28, 2, 5, A, B), 0, 12),
-                at(4, jmp(0)),
+                (0, instruction(LD, dir(310), reg(A))),
+                (1, instruction(ST, reg(A), dir(311))),
+                (2, instruction(LD, ind(B), reg(A))),
+                (3, instruction(ST, reg(A), idx(B, 12))),
+                (4, again),
             ],
         ),
         program(
             "c  push call rtn pop",
             &[
-                (0, tag(22, 1, 0, 0, 0), 7, 0),
-                (1, tag(2, 1, 0, 0, 0), 10, 0),
-                (2, tag(21, 2, 0, A, 0), 0, 0),
-                at(3, jmp(0)),
-                (10, tag(25, 0, 0, 0, 0), 0, 0),
+                (0, instruction(PUSH, imm(7), NONE)),
+                (1, instruction(CALL, imm(10), NONE)),
+                (2, instruction(POP, reg(A), NONE)),
+                (3, again),
+                (10, instruction(RTN, NONE, NONE)),
             ],
         ),
         program(
             "d  trap rti",
-            &[(0, tag(31, 0, 0, 0, 0), 0, 0), at(1, jmp(0)), (200, tag(24, 0, 0, 0, 0), 0, 0)],
+            &[
+                (0, instruction(TRAP, NONE, NONE)),
+                (1, again),
+                (INTERRUPT_HANDLER as usize, instruction(RTI, NONE, NONE)),
+            ],
         ),
     ]
 }
 
 /// 10,000 cells of one kind, for the acceptance tests that each call makes once.
-pub fn filled(name: &'static str, cell: [i64; 3]) -> Program {
-    Program { name, cells: cell.repeat(CELLS), row: [0; 16] }
+pub fn filled(name: &'static str, cell: Cell) -> Program {
+    Program { name, cells: cell.repeat(CELLS_MOST), row: [0; ROW] }
 }
 
 pub fn kinds() -> [Program; 3] {
     [
-        filled("empty", [0, 0, 0]),
-        filled("words", [1, -1, 0]),
-        filled("instructions", [tag(0, 5, 2, B, A), 5, 0]),
+        filled("empty", EMPTY),
+        filled("words", word(-1)),
+        filled("instructions", instruction(ADD, idx(B, 5), reg(A))),
     ]
 }

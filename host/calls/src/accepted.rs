@@ -4,17 +4,21 @@ use draws::edges;
 use draws::forms::*;
 use draws::rng::Rng;
 
+use layout::code::CODES;
+use layout::limit::{ADDRESS_LAST, CELLS_LEAST, CELLS_MOST, CYCLES_MOST, OUTPUT_MOST, QUEUE_MOST};
+use layout::memory::INTERRUPT_HANDLER;
+use layout::{Cell, ROW, at, cell, row};
+
 use crate::damaged::DAMAGED;
-use crate::refusals::{LEAST_CELLS, MOST_CELLS, MOST_OUTPUT, MOST_QUEUE, ROW};
 use crate::trial::{Buffer, Call, Lent, Trial};
 
-const HANDLER: usize = 200;
+const HANDLER: usize = INTERRUPT_HANDLER as usize;
 /// Once in so many draws a longest buffer is lent: comparing it takes long.
 const LONGEST_ONCE_IN: usize = 48;
 
 pub fn draw(rng: &mut Rng, call: Call) -> Trial {
-    let small = [LEAST_CELLS, LEAST_CELLS, LEAST_CELLS + 1, 300];
-    let large = [MOST_CELLS - 1, MOST_CELLS];
+    let small = [CELLS_LEAST, CELLS_LEAST, CELLS_LEAST + 1, 300];
+    let large = [CELLS_MOST - 1, CELLS_MOST];
     let count = if rng.once_in(LONGEST_ONCE_IN) { rng.pick(&large) } else { rng.pick(&small) };
     draw_with(rng, call, count)
 }
@@ -23,10 +27,10 @@ pub fn draw(rng: &mut Rng, call: Call) -> Trial {
 pub fn draw_with(rng: &mut Rng, call: Call, cells: usize) -> Trial {
     let mut trial = Trial { call, number: 0, word: 0, lent: Lent::default(), null: rng.once_in(2) };
     if call.is_lent(Buffer::Queue) {
-        trial.lent.queue = bytes(rng, &[1, 1, 2, 3, 7, 16], &[MOST_QUEUE - 1, MOST_QUEUE]);
+        trial.lent.queue = bytes(rng, &[1, 1, 2, 3, 7, 16], &[QUEUE_MOST - 1, QUEUE_MOST]);
     }
     if call.is_lent(Buffer::Output) {
-        trial.lent.output = bytes(rng, &[0, 0, 1, 2, 5, 64], &[MOST_OUTPUT - 1, MOST_OUTPUT]);
+        trial.lent.output = bytes(rng, &[0, 0, 1, 2, 5, 64], &[OUTPUT_MOST - 1, OUTPUT_MOST]);
     }
     if call.is_lent(Buffer::Row) {
         draw_row(rng, &mut trial, cells);
@@ -52,24 +56,24 @@ pub fn lengths(trial: &Trial) -> (i64, i64) {
     let read = |buffer: Buffer, not_lent: usize| {
         if trial.call.is_lent(buffer) { trial.length(buffer) } else { not_lent }
     };
-    (read(Buffer::Queue, MOST_QUEUE) as i64, read(Buffer::Output, MOST_OUTPUT) as i64)
+    (read(Buffer::Queue, QUEUE_MOST) as i64, read(Buffer::Output, OUTPUT_MOST) as i64)
 }
 
 fn draw_row(rng: &mut Rng, trial: &mut Trial, cells: usize) {
     let (queue, output) = lengths(trial);
     let mut row = vec![0; ROW];
-    row[..3].copy_from_slice(&edges::cell(rng));
-    row[3..6].copy_from_slice(&edges::cell(rng));
-    row[6] = if rng.once_in(4) { edges::address(rng) } else { rng.below(cells) as i64 };
-    row[7] = if rng.once_in(2) { edges::address(rng) } else { rng.below(cells + 1) as i64 };
-    row[8] = if rng.once_in(4) { edges::word(rng) } else { edges::status(rng) };
-    row[9] = if rng.once_in(4) { i64::MAX - rng.between(0, 4) } else { rng.between(0, 9) };
-    for mark in &mut row[10..13] {
-        *mark = rng.between(0, 1);
+    row::put_cell(&mut row, at::A, edges::cell(rng));
+    row::put_cell(&mut row, at::B, edges::cell(rng));
+    row[at::PC] = if rng.once_in(4) { edges::address(rng) } else { rng.below(cells) as i64 };
+    row[at::SP] = if rng.once_in(2) { edges::address(rng) } else { rng.below(cells + 1) as i64 };
+    row[at::SR] = if rng.once_in(4) { edges::word(rng) } else { edges::status(rng) };
+    row[at::CYCLES] = if rng.once_in(4) { CYCLES_MOST - rng.between(0, 4) } else { rng.between(0, 9) };
+    for mark in row::MARKS {
+        row[mark] = rng.between(0, 1);
     }
-    row[13] = up_to(rng, queue - 1);
-    row[14] = up_to(rng, queue);
-    row[15] = up_to(rng, output);
+    row[at::QUEUE_START] = up_to(rng, queue - 1);
+    row[at::QUEUE_COUNT] = up_to(rng, queue);
+    row[at::OUTPUT_COUNT] = up_to(rng, output);
     if trial.call == Call::Fresh {
         // "never the row's old numbers"
         row = (0..ROW).map(|_| edges::word(rng)).collect();
@@ -87,7 +91,7 @@ fn up_to(rng: &mut Rng, most: i64) -> i64 {
 }
 
 fn draw_cells(rng: &mut Rng, trial: &mut Trial, count: usize) {
-    trial.lent.cells = vec![0; 3 * count];
+    trial.lent.cells = vec![0; cell::LENGTH * count];
     let filled = rng.pick(&[4, 16, count.min(300)]);
     for _ in 0..filled {
         let (address, cell) = (rng.below(count), edges::cell(rng));
@@ -112,17 +116,17 @@ fn draw_cells(rng: &mut Rng, trial: &mut Trial, count: usize) {
     }
 }
 
-pub fn put(trial: &mut Trial, address: usize, cell: [i64; 3]) {
-    trial.lent.cells[3 * address..3 * address + 3].copy_from_slice(&cell);
+pub fn put(trial: &mut Trial, address: usize, cell: Cell) {
+    cell::put(&mut trial.lent.cells, address, cell);
 }
 
 /// Instructions from pc on; the seldom stops are helped.
 fn draw_program(rng: &mut Rng, trial: &mut Trial, count: usize) {
-    let pc = trial.lent.row[6] as usize;
+    let pc = trial.lent.row[at::PC] as usize;
     for address in pc..(pc + 6).min(count) {
         let cell = match rng.below(12) {
             0 => instruction(OUT, imm(rng.draw() as i64), dir(111)),
-            1 => instruction(IN, dir(rng.between(110, 111)), reg(rng.between(0, 4))),
+            1 => instruction(IN, dir(rng.between(110, 111)), reg(rng.between(0, REGISTERS - 1))),
             2 => instruction(RESET, NONE, NONE),
             _ => edges::instruction(rng),
         };
@@ -135,12 +139,12 @@ fn draw_arguments(rng: &mut Rng, trial: &mut Trial, cells: usize) {
         Call::Fresh => {}
         Call::Run => trial.number = rng.pick(&[0, 1, 1, 2, 5, 40]),
         Call::Deliver => {
-            let free = trial.lent.queue.len() as i64 - trial.lent.row[14];
+            let free = trial.lent.queue.len() as i64 - trial.lent.row[at::QUEUE_COUNT];
             let length = up_to(rng, free) as usize;
             trial.lent.bytes = some_bytes(rng, length);
         }
         Call::Drain => {
-            let length = trial.lent.row[15] as usize + rng.pick(&[0, 0, 1, 7]);
+            let length = trial.lent.row[at::OUTPUT_COUNT] as usize + rng.pick(&[0, 0, 1, 7]);
             trial.lent.bytes = some_bytes(rng, length);
         }
         Call::ReadCell => {
@@ -150,15 +154,16 @@ fn draw_arguments(rng: &mut Rng, trial: &mut Trial, cells: usize) {
         }
         Call::Load => draw_image(rng, trial, cells),
         Call::SetRegister => {
-            trial.number = rng.below(4) as u64;
-            trial.word = if trial.number < 2 { edges::word(rng) } else { address(rng) };
+            let reg = rng.between(A, SP);
+            trial.number = reg as u64;
+            trial.word = if reg < PC { edges::word(rng) } else { address(rng) };
         }
-        Call::Raise => trial.number = rng.below(6) as u64,
+        Call::Raise => trial.number = rng.below(CODES as usize) as u64,
     }
 }
 
 fn address(rng: &mut Rng) -> i64 {
-    if rng.once_in(3) { rng.pick(&[0, 4_294_967_295]) } else { edges::address(rng) }
+    if rng.once_in(3) { rng.pick(&[0, ADDRESS_LAST]) } else { edges::address(rng) }
 }
 
 /// No cell, some, or as many as there is room for.

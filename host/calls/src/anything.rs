@@ -2,6 +2,8 @@
 
 use draws::edges;
 use draws::rng::Rng;
+use layout::cell;
+use layout::form::TAGS_END;
 
 use crate::accepted;
 use crate::damaged::DAMAGED;
@@ -38,12 +40,12 @@ fn damage(rng: &mut Rng, trial: &mut Trial) {
     let cell = if rng.once_in(2) {
         rng.pick(&DAMAGED)
     } else {
-        [rng.between(-2, 29_710), edges::word(rng), edges::word(rng)]
+        [rng.between(-2, TAGS_END + 8), edges::word(rng), edges::word(rng)]
     };
     let cells = if rng.once_in(2) { &mut trial.lent.cells } else { &mut trial.lent.image };
     if !cells.is_empty() {
-        let at = 3 * rng.below(cells.len() / 3);
-        cells[at..at + 3].copy_from_slice(&cell);
+        let address = rng.below(cells.len() / cell::LENGTH);
+        cell::put(cells, address, cell);
     }
 }
 

@@ -1,5 +1,7 @@
 //! A trial made on the library, in guarded buffers, and held to the model.
 
+use layout::refusal::NONE;
+
 use crate::guarded::Guarded;
 use crate::model;
 use crate::trial::{Answer, Call, Lent, Trial};
@@ -23,7 +25,7 @@ impl Asked {
         let answer = self.library(trial);
         self.due.clone_from(&trial.lent);
         let due = model::answer(trial, &mut self.due);
-        if due.refusal > 0 && self.due != trial.lent {
+        if due.refusal != NONE && self.due != trial.lent {
             return Err(format!("{}: the model changed something on a refusal", trial.told()));
         }
         if answer != due {

@@ -1,13 +1,14 @@
 //! The library held to the model, one kind of trial after another.
 
 use draws::rng::Rng;
+use layout::limit::CELLS_MOST;
+use layout::refusal::DAMAGED_CELL;
 
 use crate::asked::Asked;
 use crate::coverage::{Coverage, all_pairs};
 use crate::faults::{self, Fault};
-use crate::refusals::MOST_CELLS;
 use crate::trial::{CALLS, Call, Trial};
-use crate::{accepted, anything, damaged, huge, tags};
+use crate::{accepted, anything, damaged, exercise, huge, tags};
 
 /// How often each fault, and each pair of faults, is put into another accepted trial.
 const EACH_FAULT: usize = 6;
@@ -29,10 +30,12 @@ pub fn check(seed: u64) -> Result<Vec<String>, String> {
     }
     let tags = tags::check()?;
     let huge = huge::check()?;
+    let exercise = exercise::check(seed)?;
     Ok(vec![
         check.coverage.complete()?,
         format!("{tags} cells, each read, loaded and in register a: sound or refused as document 01 has it"),
         huge,
+        exercise,
     ])
 }
 
@@ -94,14 +97,14 @@ impl Check {
 
     /// One damaged cell at each address of the largest machine, and by half another one behind it.
     fn every_address(&mut self, call: Call) -> Result<(), String> {
-        if !call.refusals().contains(&5) {
+        if !call.refusals().contains(&DAMAGED_CELL) {
             return Ok(());
         }
-        let trial = accepted::draw_with(&mut self.rng, call, MOST_CELLS);
-        for address in 0..MOST_CELLS {
+        let trial = accepted::draw_with(&mut self.rng, call, CELLS_MOST);
+        for address in 0..CELLS_MOST {
             let mut faults = vec![Fault::Damaged(address, self.rng.pick(&damaged::DAMAGED))];
             if call != Call::ReadCell && self.rng.once_in(2) {
-                let behind = self.rng.between(address as i64, MOST_CELLS as i64 - 1) as usize;
+                let behind = self.rng.between(address as i64, CELLS_MOST as i64 - 1) as usize;
                 faults.insert(0, Fault::Damaged(behind, self.rng.pick(&damaged::DAMAGED)));
             }
             self.due(trial.clone(), &faults)?;

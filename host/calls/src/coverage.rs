@@ -2,21 +2,22 @@
 
 use std::collections::{BTreeMap, BTreeSet};
 
+use layout::limit::CELLS_MOST;
+use layout::refusal::{DAMAGED_CELL, NONE, ROW};
+use layout::row::{RANGED, from_1};
+use layout::stop;
+
 use crate::faults::together;
-use crate::refusals::MOST_CELLS;
 use crate::trial::{Answer, Buffer, CALLS, Call, Trial};
 
 type Refusal = (u64, u64);
-
-/// The row's places that can be out of range.
-const ROW_PLACES: [u64; 12] = [0, 1, 4, 7, 8, 10, 11, 12, 13, 14, 15, 16];
 
 #[derive(Default)]
 pub struct Coverage {
     pub trials: u64,
     refused: BTreeMap<(Call, Refusal), u64>,
     /// Done, by the stop where there is one.
-    done: BTreeMap<(Call, i64), u64>,
+    done: BTreeMap<(Call, u64), u64>,
     pairs: BTreeSet<(Call, Refusal, Refusal)>,
     /// An empty buffer, null or not.
     empty: BTreeSet<(Call, Buffer, bool)>,
@@ -26,10 +27,10 @@ impl Coverage {
     pub fn count(&mut self, trial: &Trial, answer: &Answer) {
         self.trials += 1;
         let call = trial.call;
-        if answer.refusal > 0 {
+        if answer.refusal != NONE {
             *self.refused.entry((call, (answer.refusal, answer.place))).or_default() += 1;
         } else {
-            let stop = if matches!(call, Call::Run | Call::Raise) { answer.rest[0] } else { 0 };
+            let stop = if matches!(call, Call::Run | Call::Raise) { answer.rest[0] as u64 } else { 0 };
             *self.done.entry((call, stop)).or_default() += 1;
         }
         for buffer in call.lends() {
@@ -63,7 +64,7 @@ impl Coverage {
                 need(1, there, format!("{call:?} with both {one:?} and {two:?}"));
             }
             for stop in all_stops(call) {
-                need(2, self.done.contains_key(&(call, *stop)), format!("{call:?} done, stop {stop}"));
+                need(2, self.done.contains_key(&(call, stop)), format!("{call:?} done, stop {stop}"));
             }
             for buffer in call.lends() {
                 for null in [false, true] {
@@ -87,9 +88,9 @@ impl Coverage {
 /// Every number and place; a damaged cell at every address of the largest machine.
 fn all_refusals(call: Call) -> Vec<Refusal> {
     let each = |number: &u64| match (number, call) {
-        (4, Call::Fresh) => vec![(4, 0)],
-        (4, _) => ROW_PLACES.map(|place| (4, place)).to_vec(),
-        (5, _) => (0..MOST_CELLS as u64).map(|address| (5, address)).collect(),
+        (&ROW, Call::Fresh) => vec![(ROW, 0)],
+        (&ROW, _) => [0].into_iter().chain(RANGED.map(from_1)).map(|place| (ROW, place)).collect(),
+        (&DAMAGED_CELL, _) => (0..CELLS_MOST as u64).map(|address| (DAMAGED_CELL, address)).collect(),
         (number, _) => vec![(*number, 0)],
     };
     call.refusals().iter().flat_map(each).collect()
@@ -98,7 +99,7 @@ fn all_refusals(call: Call) -> Vec<Refusal> {
 /// Two different refusals that one trial can deserve; a damaged cell counts without its address.
 pub fn all_pairs(call: Call) -> Vec<(Refusal, Refusal)> {
     let mut classes = all_refusals(call);
-    classes.retain(|(number, place)| *number != 5 || *place == 0);
+    classes.retain(|(number, place)| *number != DAMAGED_CELL || *place == 0);
     let mut pairs = Vec::new();
     for (i, one) in classes.iter().enumerate() {
         for two in &classes[i + 1..] {
@@ -110,10 +111,10 @@ pub fn all_pairs(call: Call) -> Vec<(Refusal, Refusal)> {
     pairs
 }
 
-fn all_stops(call: Call) -> &'static [i64] {
+fn all_stops(call: Call) -> Vec<u64> {
     match call {
-        Call::Run => &[0, 1, 2, 3, 4, 5, 6, 7],
-        Call::Raise => &[0, 2, 7],
-        _ => &[0],
+        Call::Run => (stop::BUDGET_SPENT..=stop::CYCLES_FULL).collect(),
+        Call::Raise => vec![stop::ENTERED, stop::NO_HANDLER, stop::CYCLES_FULL],
+        _ => vec![0],
     }
 }

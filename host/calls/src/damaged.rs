@@ -1,21 +1,24 @@
 //! Cells that are damaged, each for a reason of its own.
 
+use layout::Cell;
+use layout::cell::{TAG_EMPTY, TAG_LEAST_INSTRUCTION, TAG_WORD};
+use layout::form::TAGS_END;
 use plain::sound;
 
 /// In turn: tags below 0 and past the last; numbers in an empty cell and behind a word; `add` without operands; a mode
 /// that the second operand cannot have; a register or a number where the mode has none; a direct number that is no address.
-pub const DAMAGED: [[i64; 3]; 19] = [
+pub const DAMAGED: [Cell; 19] = [
     [-1, 0, 0],
     [i64::MIN, 0, 0],
-    [29_702, 0, 0],
+    [TAGS_END, 0, 0],
     [i64::MAX, 0, 0],
-    [0, 1, 0],
-    [0, 0, 1],
-    [0, i64::MIN, 0],
-    [1, 0, 1],
-    [1, 5, -1],
-    [2, 0, 0],
-    [29_701, 0, 0],
+    [TAG_EMPTY, 1, 0],
+    [TAG_EMPTY, 0, 1],
+    [TAG_EMPTY, i64::MIN, 0],
+    [TAG_WORD, 0, 1],
+    [TAG_WORD, 5, -1],
+    [TAG_LEAST_INSTRUCTION, 0, 0],
+    [TAGS_END - 1, 0, 0],
     [15_303, 0, 0],
     [15_307, 0, 0],
     [207, 5, 0],

@@ -1,10 +1,14 @@
 //! Faults put into accepted trials. Each names its refusal itself, so that the model is not asked alone.
 
 use draws::rng::Rng;
+use layout::code::CODES;
+use layout::limit::{ADDRESS_LAST, OUTPUT_MOST, QUEUE_MOST};
+use layout::reg::{PC, SP, SR};
+use layout::row::{MARKS, from_1};
+use layout::{Cell, ROW, at, cell, refusal, row};
 
 use crate::accepted::{lengths, put};
 use crate::damaged::DAMAGED;
-use crate::refusals::{LAST_ADDRESS, MOST_OUTPUT, MOST_QUEUE};
 use crate::trial::{Buffer, Call, Trial};
 
 #[derive(Clone, Copy, Debug)]
@@ -18,14 +22,14 @@ pub enum Fault {
     /// A damaged cell first or last in the image.
     DamagedImage {
         last: bool,
-        cell: [i64; 3],
+        cell: Cell,
     },
     Outside(u64),
     Register(u64, i64),
     Code(u64),
-    RowCell(usize, [i64; 3]),
+    RowCell(usize, Cell),
     RowNumber(usize, i64),
-    Damaged(usize, [i64; 3]),
+    Damaged(usize, Cell),
     RowLength(usize),
     OutputLength(usize),
     QueueLength(usize),
@@ -34,8 +38,9 @@ pub enum Fault {
 
 const CELLS_LENGTHS: [usize; 14] =
     [0, 1, 2, 3, 765, 766, 767, 769, 770, 29_999, 30_001, 30_002, 30_003, 90_000];
-const ROW_LENGTHS: [usize; 6] = [0, 1, 15, 17, 32, 65_552];
-const MARKS: [i64; 5] = [-1, 2, 256, 257, 4_294_967_297];
+/// The last has the row's length in its low 16 bits.
+const ROW_LENGTHS: [usize; 6] = [0, 1, ROW - 1, ROW + 1, 2 * ROW, (1 << 16) + ROW];
+const NO_MARKS: [i64; 5] = [-1, 2, 256, 257, 4_294_967_297];
 /// Out of every range of the row but sr's and, above 0, cycles'.
 const FAR: [i64; 4] = [-1, i64::MIN, i64::MAX, 4_294_967_296];
 /// 3 × the second is 2^64 - 1, 3 × the third wraps to 2.
@@ -49,45 +54,47 @@ const FAR_ADDRESSES: [u64; 7] = [
     1 << 20,
 ];
 const NO_REGISTERS: [(u64, i64); 13] = [
-    (4, 0),
-    (5, 0),
+    (SR as u64, 0),
+    (SR as u64 + 1, 0),
     (256, 0),
     (1 << 32, 0),
     ((1 << 32) + 1, 0),
     (u64::MAX, 0),
-    (2, -1),
-    (2, LAST_ADDRESS + 1),
-    (2, i64::MIN),
-    (3, -1),
-    (3, LAST_ADDRESS + 1),
-    (3, i64::MIN),
-    (3, i64::MAX),
+    (PC as u64, -1),
+    (PC as u64, ADDRESS_LAST + 1),
+    (PC as u64, i64::MIN),
+    (SP as u64, -1),
+    (SP as u64, ADDRESS_LAST + 1),
+    (SP as u64, i64::MIN),
+    (SP as u64, i64::MAX),
 ];
-const NO_CODES: [u64; 7] = [6, 7, 256, 1 << 32, (1 << 32) + 5, 1 << 63, u64::MAX];
+const NO_CODES: [u64; 7] = [CODES, CODES + 1, 256, 1 << 32, (1 << 32) + 5, 1 << 63, u64::MAX];
 
 impl Fault {
     /// Number and place. Of several faults the lowest pair is due: places of one refusal are looked at in turn.
     pub fn refusal(self) -> (u64, u64) {
         match self {
-            Fault::CellsLength(_) => (1, 0),
-            Fault::QueueLength(_) => (2, 0),
-            Fault::OutputLength(_) => (3, 0),
-            Fault::RowLength(_) => (4, 0),
-            Fault::RowCell(place, _) | Fault::RowNumber(place, _) => (4, place as u64),
-            Fault::Damaged(address, _) => (5, address as u64),
-            Fault::TooMany(_) => (6, 0),
-            Fault::Short(_) => (7, 0),
-            Fault::Outside(_) => (8, 0),
-            Fault::RaggedImage(_) | Fault::ImagePastEnd(_) | Fault::DamagedImage { .. } => (9, 0),
-            Fault::Register(..) => (10, 0),
-            Fault::Code(_) => (11, 0),
+            Fault::CellsLength(_) => (refusal::CELLS, 0),
+            Fault::QueueLength(_) => (refusal::QUEUE, 0),
+            Fault::OutputLength(_) => (refusal::OUTPUT, 0),
+            Fault::RowLength(_) => (refusal::ROW, 0),
+            Fault::RowCell(place, _) | Fault::RowNumber(place, _) => (refusal::ROW, from_1(place)),
+            Fault::Damaged(address, _) => (refusal::DAMAGED_CELL, address as u64),
+            Fault::TooMany(_) => (refusal::DELIVERY, 0),
+            Fault::Short(_) => (refusal::DRAIN, 0),
+            Fault::Outside(_) => (refusal::ADDRESS, 0),
+            Fault::RaggedImage(_) | Fault::ImagePastEnd(_) | Fault::DamagedImage { .. } => {
+                (refusal::IMAGE, 0)
+            }
+            Fault::Register(..) => (refusal::REGISTER, 0),
+            Fault::Code(_) => (refusal::CODE, 0),
         }
     }
 
     /// The refusal without the address of a damaged cell.
     pub fn class(self) -> (u64, u64) {
         match self.refusal() {
-            (5, _) => (5, 0),
+            (refusal::DAMAGED_CELL, _) => (refusal::DAMAGED_CELL, 0),
             refusal => refusal,
         }
     }
@@ -105,30 +112,30 @@ impl Fault {
         let lent = &mut trial.lent;
         match self {
             Fault::TooMany(more) => {
-                let free = lent.queue.len() - lent.row[14] as usize;
+                let free = lent.queue.len() - lent.row[at::QUEUE_COUNT] as usize;
                 lent.bytes.resize(free + more, 9);
             }
             Fault::Short(length) => {
-                lent.row[15] = lent.row[15].max(1);
-                let most = lent.row[15] as usize - 1;
+                lent.row[at::OUTPUT_COUNT] = lent.row[at::OUTPUT_COUNT].max(1);
+                let most = lent.row[at::OUTPUT_COUNT] as usize - 1;
                 lent.bytes.resize(length.min(most), 9);
             }
             Fault::RaggedImage(more) => lent.image.resize(lent.image.len() + more, 0),
             Fault::ImagePastEnd(more) => {
-                let room = lent.cells.len() - 3 * trial.number as usize;
-                lent.image.resize(room + 3 * more, 0);
+                let room = lent.cells.len() - cell::LENGTH * trial.number as usize;
+                lent.image.resize(room + cell::LENGTH * more, 0);
             }
             Fault::DamagedImage { last, cell } => {
                 if lent.image.is_empty() {
-                    lent.image.resize(3, 0);
+                    lent.image.resize(cell::LENGTH, 0);
                 }
-                let at = if last { lent.image.len() - 3 } else { 0 };
-                lent.image[at..at + 3].copy_from_slice(&cell);
+                let address = if last { lent.image.len() / cell::LENGTH - 1 } else { 0 };
+                cell::put(&mut lent.image, address, cell);
             }
             Fault::Outside(number) | Fault::Code(number) => trial.number = number,
             Fault::Register(reg, word) => (trial.number, trial.word) = (reg, word),
-            Fault::RowCell(place, cell) => lent.row[place - 1..place + 2].copy_from_slice(&cell),
-            Fault::RowNumber(place, number) => lent.row[place - 1] = number,
+            Fault::RowCell(place, cell) => row::put_cell(&mut lent.row, place, cell),
+            Fault::RowNumber(place, number) => lent.row[place] = number,
             Fault::Damaged(address, cell) => {
                 put(trial, address, cell);
                 if trial.call == Call::ReadCell {
@@ -155,19 +162,21 @@ pub fn apply(trial: &mut Trial, faults: &[Fault]) -> (u64, u64) {
 pub fn of(rng: &mut Rng, trial: &Trial) -> Vec<Fault> {
     let mut faults = Vec::new();
     for refusal in trial.call.refusals() {
-        match refusal {
-            1 => faults.extend(CELLS_LENGTHS.map(Fault::CellsLength)),
-            2 => faults.extend([0, MOST_QUEUE + 1, 2 * MOST_QUEUE, 65_537].map(Fault::QueueLength)),
-            3 => faults.extend([MOST_OUTPUT + 1, 2 * MOST_OUTPUT].map(Fault::OutputLength)),
-            4 => row(trial, &mut faults),
-            5 => damage(rng, trial, &mut faults),
-            6 => faults.extend([1, 2, 5_000, 65_536].map(Fault::TooMany)),
+        match *refusal {
+            refusal::CELLS => faults.extend(CELLS_LENGTHS.map(Fault::CellsLength)),
+            refusal::QUEUE => {
+                faults.extend([0, QUEUE_MOST + 1, 2 * QUEUE_MOST, 65_537].map(Fault::QueueLength))
+            }
+            refusal::OUTPUT => faults.extend([OUTPUT_MOST + 1, 2 * OUTPUT_MOST].map(Fault::OutputLength)),
+            refusal::ROW => row_faults(trial, &mut faults),
+            refusal::DAMAGED_CELL => damage(rng, trial, &mut faults),
+            refusal::DELIVERY => faults.extend([1, 2, 5_000, 65_536].map(Fault::TooMany)),
             // an empty output record has nothing that a buffer is too short for
-            7 if trial.lent.output.is_empty() => {}
-            7 => faults.extend([0, usize::MAX].map(Fault::Short)),
-            8 => outside(trial, &mut faults),
-            9 => image(&mut faults),
-            10 => faults.extend(NO_REGISTERS.map(|(reg, word)| Fault::Register(reg, word))),
+            refusal::DRAIN if trial.lent.output.is_empty() => {}
+            refusal::DRAIN => faults.extend([0, usize::MAX].map(Fault::Short)),
+            refusal::ADDRESS => outside(trial, &mut faults),
+            refusal::IMAGE => image(&mut faults),
+            refusal::REGISTER => faults.extend(NO_REGISTERS.map(|(reg, word)| Fault::Register(reg, word))),
             _ => faults.extend(NO_CODES.map(Fault::Code)),
         }
     }
@@ -176,25 +185,29 @@ pub fn of(rng: &mut Rng, trial: &Trial) -> Vec<Fault> {
 
 /// Whether both can be put into one trial: a cell read has only one cell.
 pub fn together(call: Call, one: (u64, u64), two: (u64, u64)) -> bool {
-    !(call == Call::ReadCell && one.0 == 5 && two.0 == 8)
+    !(call == Call::ReadCell && one.0 == refusal::DAMAGED_CELL && two.0 == refusal::ADDRESS)
 }
 
-fn row(trial: &Trial, faults: &mut Vec<Fault>) {
+fn row_faults(trial: &Trial, faults: &mut Vec<Fault>) {
     faults.extend(ROW_LENGTHS.map(Fault::RowLength));
     if trial.call == Call::Fresh {
         return;
     }
     let (queue, output) = lengths(trial);
-    for place in [1, 4] {
+    for place in [at::A, at::B] {
         faults.extend(DAMAGED.map(|cell| Fault::RowCell(place, cell)));
     }
-    faults.extend([-1, i64::MIN].map(|number| Fault::RowNumber(10, number)));
-    for place in [11, 12, 13] {
-        faults.extend(MARKS.map(|number| Fault::RowNumber(place, number)));
+    faults.extend([-1, i64::MIN].map(|number| Fault::RowNumber(at::CYCLES, number)));
+    for place in MARKS {
+        faults.extend(NO_MARKS.map(|number| Fault::RowNumber(place, number)));
     }
-    for (place, past) in
-        [(7, LAST_ADDRESS + 1), (8, LAST_ADDRESS + 1), (14, queue), (15, queue + 1), (16, output + 1)]
-    {
+    for (place, past) in [
+        (at::PC, ADDRESS_LAST + 1),
+        (at::SP, ADDRESS_LAST + 1),
+        (at::QUEUE_START, queue),
+        (at::QUEUE_COUNT, queue + 1),
+        (at::OUTPUT_COUNT, output + 1),
+    ] {
         faults.push(Fault::RowNumber(place, past));
         faults.extend(FAR.map(|number| Fault::RowNumber(place, number)));
     }
@@ -202,14 +215,14 @@ fn row(trial: &Trial, faults: &mut Vec<Fault>) {
 
 /// The first cell, the last and another.
 fn damage(rng: &mut Rng, trial: &Trial, faults: &mut Vec<Fault>) {
-    let count = trial.length(Buffer::Cells) / 3;
+    let count = trial.length(Buffer::Cells) / cell::LENGTH;
     for cell in DAMAGED {
         faults.extend([0, count - 1, rng.below(count)].map(|address| Fault::Damaged(address, cell)));
     }
 }
 
 fn outside(trial: &Trial, faults: &mut Vec<Fault>) {
-    let count = (trial.length(Buffer::Cells) / 3) as u64;
+    let count = (trial.length(Buffer::Cells) / cell::LENGTH) as u64;
     faults.extend([count, count + 1].map(Fault::Outside));
     faults.extend(FAR_ADDRESSES.map(Fault::Outside));
 }

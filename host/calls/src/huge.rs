@@ -5,10 +5,13 @@ use std::ffi::c_void;
 use std::ptr::null_mut;
 use std::slice;
 
+use layout::limit::CELLS_LEAST;
+use layout::{ROW, at, cell};
+
 const PAST: usize = 1 << 32;
 
 /// A multiple of 3 with the low 32 bits of 256 cells.
-const CELLS: usize = 3 * PAST + 3 * 256;
+const CELLS: usize = cell::LENGTH * (PAST + CELLS_LEAST);
 
 unsafe extern "C" {
     fn mmap(at: *mut c_void, length: usize, access: i32, kind: i32, file: i32, offset: i64) -> *mut c_void;
@@ -68,7 +71,7 @@ pub fn check() -> Result<String, String> {
 type Looked = (&'static str, (u64, u64), (u64, u64));
 
 fn refused(zeros: &mut Zeros) -> Vec<Looked> {
-    let (mut cells, mut row) = (vec![0; 3 * 256], [0; 16]);
+    let (mut cells, mut row) = (vec![0; cell::LENGTH * CELLS_LEAST], [0; ROW]);
     let (cells, row) = (&mut cells[..], &mut row[..]);
     let (mut queue, output) = ([0; 4], [0; 4]);
     let queue = &mut queue[..];
@@ -76,33 +79,36 @@ fn refused(zeros: &mut Zeros) -> Vec<Looked> {
     let ran = |answer: z33::Ran| (answer.refusal, answer.place);
     let drained = |answer: z33::Drained| (answer.refusal, answer.place);
     let raised = |answer: z33::Raised| (answer.refusal, answer.place);
+    let counted = |answer: z33::Counted| (answer.refusal, answer.place);
     let read = z33::read_cell(&*zeros.numbers(CELLS), 0);
     vec![
         ("fresh, cells", done(z33::fresh(zeros.numbers(CELLS), &mut *row)), (1, 0)),
-        ("fresh, row", done(z33::fresh(&mut *cells, zeros.numbers(PAST + 16))), (4, 0)),
+        ("fresh, row", done(z33::fresh(&mut *cells, zeros.numbers(PAST + ROW))), (4, 0)),
         ("run, cells", ran(z33::run(zeros.numbers(CELLS), &mut *queue, None, &mut *row, 1)), (1, 0)),
         ("run, queue", ran(z33::run(&mut *cells, zeros.bytes(PAST + 4), None, &mut *row, 1)), (2, 0)),
         ("run, output", ran(z33::run(&mut *cells, &mut *queue, zeros.bytes(PAST + 4), &mut *row, 1)), (3, 0)),
-        ("run, row", ran(z33::run(&mut *cells, &mut *queue, None, zeros.numbers(PAST + 16), 1)), (4, 0)),
+        ("run, row", ran(z33::run(&mut *cells, &mut *queue, None, zeros.numbers(PAST + ROW), 1)), (4, 0)),
         ("deliver, queue", done(z33::deliver(zeros.bytes(PAST + 4), &mut *row, None)), (2, 0)),
-        ("deliver, row", done(z33::deliver(&mut *queue, zeros.numbers(PAST + 16), None)), (4, 0)),
+        ("deliver, row", done(z33::deliver(&mut *queue, zeros.numbers(PAST + ROW), None)), (4, 0)),
         ("deliver, bytes", done(z33::deliver(&mut *queue, &mut *row, &*zeros.bytes(PAST))), (6, 0)),
         ("drain, output", drained(z33::drain(&*zeros.bytes(PAST + 4), &mut *row, None)), (3, 0)),
-        ("drain, row", drained(z33::drain(&output[..], zeros.numbers(PAST + 16), None)), (4, 0)),
+        ("drain, row", drained(z33::drain(&output[..], zeros.numbers(PAST + ROW), None)), (4, 0)),
         ("read, cells", (read.refusal, read.place), (1, 0)),
         ("load, cells", done(z33::load(zeros.numbers(CELLS), None, 0)), (1, 0)),
-        ("load, image", done(z33::load(&mut *cells, &*zeros.numbers(3 * PAST), 0)), (9, 0)),
-        ("set register, row", done(z33::set_register(zeros.numbers(PAST + 16), 0, 0)), (4, 0)),
+        ("load, image", done(z33::load(&mut *cells, &*zeros.numbers(cell::LENGTH * PAST), 0)), (9, 0)),
+        ("set register, row", done(z33::set_register(zeros.numbers(PAST + ROW), 0, 0)), (4, 0)),
         ("raise, cells", raised(z33::raise(zeros.numbers(CELLS), &mut *row, 0)), (1, 0)),
-        ("raise, row", raised(z33::raise(&mut *cells, zeros.numbers(PAST + 16), 0)), (4, 0)),
+        ("raise, row", raised(z33::raise(&mut *cells, zeros.numbers(PAST + ROW), 0)), (4, 0)),
+        // 2^32 is no multiple of 3: only the length's low 32 bits would be whole cells
+        ("exercise, image", counted(z33::exercise(zeros.numbers(PAST + cell::LENGTH), 0)), (9, 0)),
     ]
 }
 
 /// A drain buffer may be as long as it likes.
 fn drained(zeros: &mut Zeros) -> (u64, u64) {
-    let mut row = [0; 16];
-    row[15] = 2;
+    let mut row = [0; ROW];
+    row[at::OUTPUT_COUNT] = 2;
     let answer = z33::drain(&[7, 8, 9][..], &mut row[..], zeros.bytes(PAST + 1));
-    let done = answer.count == 2 && row == [0; 16] && zeros.bytes(4) == [7, 8, 0, 0];
+    let done = answer.count == 2 && row == [0; ROW] && zeros.bytes(4) == [7, 8, 0, 0];
     if done { (answer.refusal, answer.place) } else { (u64::MAX, 0) }
 }

@@ -1,4 +1,4 @@
-//! The eight calls on any lengths and contents: a plain model of them, generators, and the library held to the model.
+//! The calls on any lengths and contents: a plain model of them, generators, and the library held to the model.
 //! None of it needs the original.
 
 mod accepted;
@@ -7,6 +7,7 @@ mod asked;
 mod check;
 mod coverage;
 mod damaged;
+mod exercise;
 mod faults;
 mod guarded;
 mod huge;

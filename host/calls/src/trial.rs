@@ -1,5 +1,7 @@
 //! A call with everything that is lent to it, and its answer.
 
+use layout::{ROW, refusal};
+
 #[derive(Clone, Copy, Debug, PartialEq, Eq, PartialOrd, Ord)]
 pub enum Call {
     Fresh,
@@ -48,14 +50,14 @@ impl Call {
     /// The refusals of "Turned back" that it can give.
     pub fn refusals(self) -> &'static [u64] {
         match self {
-            Fresh => &[1, 4],
-            Run => &[1, 2, 3, 4, 5],
-            Deliver => &[2, 4, 6],
-            Drain => &[3, 4, 7],
-            ReadCell => &[1, 5, 8],
-            Load => &[1, 8, 9],
-            SetRegister => &[4, 10],
-            Raise => &[1, 4, 5, 11],
+            Fresh => &[refusal::CELLS, refusal::ROW],
+            Run => &[refusal::CELLS, refusal::QUEUE, refusal::OUTPUT, refusal::ROW, refusal::DAMAGED_CELL],
+            Deliver => &[refusal::QUEUE, refusal::ROW, refusal::DELIVERY],
+            Drain => &[refusal::OUTPUT, refusal::ROW, refusal::DRAIN],
+            ReadCell => &[refusal::CELLS, refusal::DAMAGED_CELL, refusal::ADDRESS],
+            Load => &[refusal::CELLS, refusal::ADDRESS, refusal::IMAGE],
+            SetRegister => &[refusal::ROW, refusal::REGISTER],
+            Raise => &[refusal::CELLS, refusal::ROW, refusal::DAMAGED_CELL, refusal::CODE],
         }
     }
 }
@@ -100,7 +102,7 @@ impl Trial {
         let lengths: Vec<String> =
             self.call.lends().iter().map(|buffer| format!("{buffer:?} {}", self.length(*buffer))).collect();
         let (call, number, word, row) = (self.call, self.number, self.word, &self.lent.row);
-        let row = &row[..row.len().min(17)];
+        let row = &row[..row.len().min(ROW + 1)];
         format!(
             "{call:?} with number {number}, word {word}, lengths {}, null {}, row {row:?}",
             lengths.join(", "),

@@ -1,6 +1,7 @@
 //! Which (form, outcome) pairs are possible, and which were reached.
 
 use judge::Step;
+use layout::{Cell, code, stop};
 
 use crate::forms::*;
 
@@ -19,37 +20,42 @@ pub enum Outcome {
 
 use Outcome::{Done, Entered, Interrupt, Stopped, Unhandled};
 
+/// The registers of stop 5.
+const ON_PC: Outcome = Stopped(stop::INVALID_REGISTER, PC as u64);
+const ON_SP: Outcome = Stopped(stop::INVALID_REGISTER, SP as u64);
+const ON_SR: Outcome = Stopped(stop::INVALID_REGISTER, SR as u64);
+
 /// Every outcome with the count of forms (of the 124, and the fetch) that it is possible for.
 pub const OUTCOMES: [(Outcome, usize); 21] = [
     (Done, 122),
     (Interrupt, 122),
-    (Entered(1), 5),
-    (Entered(2), 11),
-    (Entered(3), 70),
-    (Entered(4), 1),
-    (Entered(5), 18),
-    (Unhandled(0), 122),
-    (Unhandled(1), 5),
-    (Unhandled(2), 11),
-    (Unhandled(3), 70),
-    (Unhandled(4), 1),
-    (Unhandled(5), 18),
-    (Stopped(1, 0), 1),
-    (Stopped(3, 0), 14),
-    (Stopped(4, 0), 104),
-    (Stopped(5, 2), 50),
-    (Stopped(5, 3), 50),
-    (Stopped(5, 4), 12),
-    (Stopped(6, 0), 6),
-    (Stopped(7, 0), 124),
+    (Entered(code::DIV_BY_ZERO), 5),
+    (Entered(code::INVALID_INSTRUCTION), 11),
+    (Entered(code::PRIVILEGED_INSTRUCTION), 70),
+    (Entered(code::TRAP), 1),
+    (Entered(code::INVALID_MEMORY_ACCESS), 18),
+    (Unhandled(code::HARDWARE_INTERRUPT), 122),
+    (Unhandled(code::DIV_BY_ZERO), 5),
+    (Unhandled(code::INVALID_INSTRUCTION), 11),
+    (Unhandled(code::PRIVILEGED_INSTRUCTION), 70),
+    (Unhandled(code::TRAP), 1),
+    (Unhandled(code::INVALID_MEMORY_ACCESS), 18),
+    (Stopped(stop::RESET, 0), 1),
+    (Stopped(stop::CELL_ERROR, 0), 14),
+    (Stopped(stop::EXTRACT, 0), 104),
+    (ON_PC, 50),
+    (ON_SP, 50),
+    (ON_SR, 12),
+    (Stopped(stop::OUTPUT_FULL, 0), 6),
+    (Stopped(stop::CYCLES_FULL, 0), 124),
 ];
 
 pub fn outcome(step: &Step) -> Outcome {
     match (step.completed, step.entered) {
         (true, None) => Done,
-        (true, Some(0)) => Interrupt,
+        (true, Some(code::HARDWARE_INTERRUPT)) => Interrupt,
         (true, Some(code)) => Entered(code),
-        (false, _) if step.stop == 2 => Unhandled(step.detail),
+        (false, _) if step.stop == stop::NO_HANDLER => Unhandled(step.detail),
         (false, _) => Stopped(step.stop, step.detail),
     }
 }
@@ -57,26 +63,30 @@ pub fn outcome(step: &Step) -> Outcome {
 /// Whether a form can come out so; no form is the fetch of what is no instruction.
 pub fn possible(form: Option<Form>, outcome: Outcome) -> bool {
     match (form, outcome) {
-        (None, Entered(code) | Unhandled(code)) => code == 2 || code == 5,
-        (None, outcome) => outcome == Stopped(7, 0),
-        (Some(form), Done | Interrupt | Unhandled(0)) => form.op != RESET && form.op != TRAP,
+        (None, Entered(code) | Unhandled(code)) => {
+            code == code::INVALID_INSTRUCTION || code == code::INVALID_MEMORY_ACCESS
+        }
+        (None, outcome) => outcome == Stopped(stop::CYCLES_FULL, 0),
+        (Some(form), Done | Interrupt | Unhandled(code::HARDWARE_INTERRUPT)) => {
+            form.op != RESET && form.op != TRAP
+        }
         (Some(form), Entered(code) | Unhandled(code)) => raises(form, code),
-        (Some(form), Stopped(1, _)) => form.op == RESET,
-        (Some(form), Stopped(3, _)) => address_alone(form),
-        (Some(form), Stopped(4, _)) => takes_operand(form),
-        (Some(form), Stopped(5, 4)) => carries_instruction(form),
-        (Some(form), Stopped(5, _)) => leaves_addresses(form),
-        (Some(form), Stopped(6, _)) => form.op == OUT,
+        (Some(form), Stopped(stop::RESET, _)) => form.op == RESET,
+        (Some(form), Stopped(stop::CELL_ERROR, _)) => address_alone(form),
+        (Some(form), Stopped(stop::EXTRACT, _)) => takes_operand(form),
+        (Some(form), ON_SR) => carries_instruction(form),
+        (Some(form), Stopped(stop::INVALID_REGISTER, _)) => leaves_addresses(form),
+        (Some(form), Stopped(stop::OUTPUT_FULL, _)) => form.op == OUT,
         (Some(form), Stopped(_, _)) => form.op != RESET,
     }
 }
 
 fn raises(form: Form, code: u64) -> bool {
     match code {
-        1 => form.op == DIV,
-        2 => matches!(form.op, SHL | SHR),
-        3 => sets_register(form.op) || matches!(form.op, OUT | RTI),
-        4 => form.op == TRAP,
+        code::DIV_BY_ZERO => form.op == DIV,
+        code::INVALID_INSTRUCTION => matches!(form.op, SHL | SHR),
+        code::PRIVILEGED_INSTRUCTION => sets_register(form.op) || matches!(form.op, OUT | RTI),
+        code::TRAP => form.op == TRAP,
         // swap [direct] reads the same address before it writes there, so it stops with 4
         _ => matches!(form.op, CALL | FAS | POP | PUSH | RTN | ST) || form.op == SWAP && form.m1 >= IND,
     }
@@ -126,9 +136,9 @@ pub struct Coverage {
 impl Default for Coverage {
     fn default() -> Self {
         let forms: Vec<_> = all().into_iter().map(Some).chain([None]).collect();
-        let mut place = vec![usize::MAX; 33 * 36];
+        let mut place = vec![usize::MAX; FORMS];
         for (i, form) in all().iter().enumerate() {
-            place[((form.tag(0, 0) - 2) / 25) as usize] = i;
+            place[form.entry()] = i;
         }
         let counts = vec![[0; OUTCOMES.len()]; forms.len()];
         let coverage = Self { forms, place, counts };
@@ -147,8 +157,8 @@ impl Coverage {
     }
 
     /// Counts a step from the cell fetched; the pair's number, or what is wrong with it.
-    pub fn count(&mut self, fetched: Option<[i64; 3]>, outcome: Outcome) -> Result<usize, String> {
-        let form = fetched.map(|cell| ((cell[0] - 2) / 25) as usize);
+    pub fn count(&mut self, fetched: Option<Cell>, outcome: Outcome) -> Result<usize, String> {
+        let form = fetched.map(|cell| Form::of_tag(cell[0]).entry());
         let form = form.map_or(self.forms.len() - 1, |form| self.place[form]);
         let column = OUTCOMES.iter().position(|(known, _)| *known == outcome);
         let column = column.ok_or(format!("no such outcome: {outcome:?}"))?;
@@ -179,6 +189,14 @@ impl Coverage {
             }
         }
         (pairs, missing)
+    }
+
+    /// The count of forms (the fetch apart) with any outcome, and how often the least of these was taken.
+    pub fn forms_taken(&self) -> (usize, u64) {
+        let all = &self.counts[..self.counts.len() - 1];
+        let taken: Vec<u64> =
+            all.iter().map(|counts| counts.iter().sum()).filter(|times| *times > 0).collect();
+        (taken.len(), taken.iter().copied().min().unwrap_or(0))
     }
 
     /// The count of forms reached, outcome by outcome.

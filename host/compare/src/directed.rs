@@ -6,33 +6,16 @@ mod console;
 mod course;
 mod rules;
 
+use layout::memory::{INTERRUPT_EXCEPTION, INTERRUPT_HANDLER, INTERRUPT_PC_SAVE, INTERRUPT_SR_SAVE};
+use layout::{Cell, code, refusal, row, stop};
 use list::{Answer, Call, Case, Lent};
 
 use crate::harness::Harness;
 
-/// Places of the row, from 1.
-pub mod at {
-    pub const A: usize = 1;
-    pub const B: usize = 4;
-    pub const PC: usize = 7;
-    pub const SP: usize = 8;
-    pub const SR: usize = 9;
-    pub const CYCLES: usize = 10;
-    pub const ENABLE: usize = 11;
-    pub const FLAG: usize = 12;
-    pub const PENDING: usize = 13;
-    pub const START: usize = 14;
-    pub const COUNT: usize = 15;
-    pub const WRITTEN: usize = 16;
-}
-
-pub const Z: i64 = 2;
-pub const N: i64 = 4;
-pub const V: i64 = 8;
-pub const I: i64 = 256;
-pub const S: i64 = 512;
-
-pub const MOST: i64 = i64::MAX;
+pub use layout::at;
+pub use layout::cell::word;
+pub use layout::limit::CYCLES_MOST as MOST;
+pub use layout::sr::{INTERRUPT_ENABLE as I, NEGATIVE as N, OVERFLOW as V, SUPERVISOR as S, ZERO as Z};
 
 /// A case with what is due after it.
 pub struct Directed {
@@ -81,7 +64,7 @@ fn difference(left: &Lent, due: &Lent) -> Option<String> {
 }
 
 /// A machine at pc 10 with the instruction there, sp 1,000, sr 0, a queue of 4 and an output record of 2.
-pub fn at_10(name: &str, instruction: [i64; 3]) -> Directed {
+pub fn at_10(name: &str, instruction: Cell) -> Directed {
     machine(name).cell(10, instruction).row(at::PC, 10).row(at::SP, 1_000)
 }
 
@@ -92,13 +75,9 @@ pub fn machine(name: &str) -> Directed {
     Directed { name: name.into(), case, answers: Vec::new(), after }
 }
 
-pub fn word(word: i64) -> [i64; 3] {
-    [1, word, 0]
-}
-
 impl Directed {
     /// Before: a cell.
-    pub fn cell(mut self, address: usize, cell: [i64; 3]) -> Self {
+    pub fn cell(mut self, address: usize, cell: Cell) -> Self {
         self.case.put(address, cell);
         self.after.put_cell(address, cell);
         self
@@ -106,33 +85,34 @@ impl Directed {
 
     /// Before: one number of the row.
     pub fn row(mut self, place: usize, number: i64) -> Self {
-        self.case.row[place - 1] = number;
-        self.after.row[place - 1] = number;
+        self.case.row[place] = number;
+        self.after.row[place] = number;
         self
     }
 
     /// Before: register a or b.
-    pub fn register(self, place: usize, [tag, first, second]: [i64; 3]) -> Self {
-        self.row(place, tag).row(place + 1, first).row(place + 2, second)
+    pub fn register(mut self, place: usize, cell: Cell) -> Self {
+        row::put_cell(&mut self.case.row, place, cell);
+        self.then_register(place, cell)
     }
 
     /// Before: the queue's bytes, its start and count.
     pub fn queue(mut self, bytes: &[u8], start: i64, count: i64) -> Self {
         self.case.queue = bytes.to_vec();
         self.after.queue = bytes.to_vec();
-        self.row(at::START, start).row(at::COUNT, count)
+        self.row(at::QUEUE_START, start).row(at::QUEUE_COUNT, count)
     }
 
     /// Before: the output record's bytes and count.
     pub fn output(mut self, bytes: &[u8], count: i64) -> Self {
         self.case.output = bytes.to_vec();
         self.after.output = bytes.to_vec();
-        self.row(at::WRITTEN, count)
+        self.row(at::OUTPUT_COUNT, count)
     }
 
     /// One step that is completed.
     pub fn done(self) -> Self {
-        self.run(1, 0, 0, 1)
+        self.run(1, stop::BUDGET_SPENT, 0, 1)
     }
 
     /// One step that is not.
@@ -141,7 +121,7 @@ impl Directed {
     }
 
     pub fn run(self, budget: u32, stop: u64, detail: u64, count: u64) -> Self {
-        self.call(Call::Run(budget), Answer { refusal: 0, stop, detail, count })
+        self.call(Call::Run(budget), Answer { refusal: refusal::NONE, stop, detail, count })
     }
 
     pub fn call(mut self, call: Call, answer: Answer) -> Self {
@@ -152,18 +132,18 @@ impl Directed {
 
     /// After: one number of the row.
     pub fn then(mut self, place: usize, number: i64) -> Self {
-        self.after.row[place - 1] = number;
+        self.after.row[place] = number;
         self
     }
 
     /// After: register a or b.
-    pub fn then_register(mut self, place: usize, cell: [i64; 3]) -> Self {
-        self.after.row[place - 1..place + 2].copy_from_slice(&cell);
+    pub fn then_register(mut self, place: usize, cell: Cell) -> Self {
+        row::put_cell(&mut self.after.row, place, cell);
         self
     }
 
     /// After: a cell.
-    pub fn then_cell(mut self, address: usize, cell: [i64; 3]) -> Self {
+    pub fn then_cell(mut self, address: usize, cell: Cell) -> Self {
         self.after.put_cell(address, cell);
         self
     }
@@ -185,11 +165,11 @@ impl Directed {
 
     /// After: an exception was entered from this pc and sr.
     pub fn then_entered(self, pc: i64, sr: i64, code: i64) -> Self {
-        let entered = if code == 0 { (sr | S) & !I } else { sr | S };
-        self.then_cell(100, word(pc))
-            .then_cell(101, word(sr))
-            .then_cell(102, word(code))
-            .then(at::PC, 200)
+        let entered = if code == code::HARDWARE_INTERRUPT as i64 { (sr | S) & !I } else { sr | S };
+        self.then_cell(INTERRUPT_PC_SAVE as usize, word(pc))
+            .then_cell(INTERRUPT_SR_SAVE as usize, word(sr))
+            .then_cell(INTERRUPT_EXCEPTION as usize, word(code))
+            .then(at::PC, INTERRUPT_HANDLER.into())
             .then(at::SR, entered)
     }
 }

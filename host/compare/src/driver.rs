@@ -1,6 +1,8 @@
 //! The judge with one case after another put on it; only the cells that were used are emptied between them.
 
 use judge::{Judge, Step};
+use layout::cell::{self, EMPTY, is_instruction};
+use layout::{Cell, at, refusal};
 use list::{Answer, CELLS, Call, Case};
 
 pub struct Driver {
@@ -20,7 +22,7 @@ impl Driver {
     pub fn start(&mut self, case: &Case) -> Vec<usize> {
         let emptied = std::mem::take(&mut self.used);
         for address in &emptied {
-            self.judge.put_cell(*address, [0, 0, 0]);
+            self.judge.put_cell(*address, EMPTY);
         }
         for (address, cell) in &case.cells {
             self.judge.put_cell(*address, *cell);
@@ -45,10 +47,9 @@ impl Driver {
 }
 
 /// The instruction at pc, if there is one.
-pub fn fetched(judge: &Judge) -> Option<[i64; 3]> {
-    let pc = usize::try_from(judge.row()[6]).ok().filter(|pc| *pc < CELLS)?;
-    let cells = judge.cells();
-    (cells[3 * pc] >= 2).then(|| [cells[3 * pc], cells[3 * pc + 1], cells[3 * pc + 2]])
+pub fn fetched(judge: &Judge) -> Option<Cell> {
+    let pc = usize::try_from(judge.row()[at::PC]).ok().filter(|pc| *pc < CELLS)?;
+    Some(cell::get(judge.cells(), pc)).filter(|cell| is_instruction(*cell))
 }
 
 fn judged(judge: &mut Judge, call: &Call) -> (Answer, Vec<u8>) {
@@ -56,7 +57,7 @@ fn judged(judge: &mut Judge, call: &Call) -> (Answer, Vec<u8>) {
     let answer = match call {
         Call::Run(budget) => {
             let ran = judge.run(*budget);
-            Answer { stop: ran.stop, detail: ran.detail, count: ran.steps, refusal: 0 }
+            Answer { stop: ran.stop, detail: ran.detail, count: ran.steps, ..Answer::DONE }
         }
         Call::Deliver(bytes) => Answer::refused(judge.deliver(bytes)),
         Call::Drain(length) => {
@@ -65,11 +66,11 @@ fn judged(judge: &mut Judge, call: &Call) -> (Answer, Vec<u8>) {
         }
         Call::Raise(code) => match judge.raise(*code) {
             Some(raised) => Answer { stop: raised.stop, detail: raised.detail, ..Answer::DONE },
-            None => Answer::refused(11),
+            None => Answer::refused(refusal::CODE),
         },
         Call::SetRegister(reg, word) => {
             let taken = judge.set_register(*reg, *word);
-            Answer::refused(if taken { 0 } else { 10 })
+            Answer::refused(if taken { refusal::NONE } else { refusal::REGISTER })
         }
     };
     (answer, buffer)
@@ -77,8 +78,8 @@ fn judged(judge: &mut Judge, call: &Call) -> (Answer, Vec<u8>) {
 
 /// A buffer that is too short is refused before anything is drained.
 fn drained(judge: &mut Judge, buffer: &mut [u8]) -> Answer {
-    if (buffer.len() as i64) < judge.row()[15] {
-        return Answer::refused(7);
+    if (buffer.len() as i64) < judge.row()[at::OUTPUT_COUNT] {
+        return Answer::refused(refusal::DRAIN);
     }
     let bytes = judge.drain();
     buffer[..bytes.len()].copy_from_slice(&bytes);

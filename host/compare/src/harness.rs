@@ -4,6 +4,7 @@
 //! the whole budget. The judge's cells are compared as the numbers that it keeps; nothing is converted.
 
 use judge::{Judge, Step};
+use layout::cell::{self, EMPTY};
 use list::{Answer, CELLS, Call, Case, Lent, Machine};
 
 use crate::coverage::{Coverage, outcome};
@@ -51,7 +52,7 @@ impl<'m> Harness<'m> {
 
     fn start(&mut self, case: &Case) {
         for address in self.driver.start(case) {
-            self.lent.put_cell(address, [0, 0, 0]);
+            self.lent.put_cell(address, EMPTY);
         }
         for (address, cell) in &case.cells {
             self.lent.put_cell(*address, *cell);
@@ -100,7 +101,8 @@ impl<'m> Harness<'m> {
         let step = self.driver.step();
         self.steps += 1;
         let answer = self.other.run(&mut self.lent, 1);
-        let due = Answer { stop: step.stop, detail: step.detail, count: step.completed.into(), refusal: 0 };
+        let due =
+            Answer { stop: step.stop, detail: step.detail, count: step.completed.into(), ..Answer::DONE };
         if answer != due {
             return Err(format!("answered {answer:?}, the judge {due:?}"));
         }
@@ -138,7 +140,7 @@ impl<'m> Harness<'m> {
 
 fn first_cell(judge: &Judge, lent: &Lent) -> String {
     let place = judge.cells().iter().zip(&lent.cells).position(|(x, y)| x != y).unwrap_or(0);
-    let address = place / 3;
-    let due = &judge.cells()[3 * address..3 * address + 3];
+    let address = place / cell::LENGTH;
+    let due = cell::get(judge.cells(), address);
     format!("cell {address} is {:?}, the judge's {due:?}", lent.cell(address))
 }

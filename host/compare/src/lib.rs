@@ -3,6 +3,7 @@
 pub mod coverage;
 pub mod directed;
 pub mod driver;
+pub mod exercise;
 pub mod harness;
 pub mod invariants;
 pub mod modes;

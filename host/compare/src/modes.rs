@@ -11,17 +11,19 @@ pub struct Size {
     pub singles: usize,
     pub programs: usize,
     pub pairs: usize,
+    /// Exercise loads of 10,000 cells.
+    pub loads: usize,
 }
 
 impl Size {
     /// About so many steps: two in three are single ones; a program takes about eight hundred.
     pub fn of(steps: usize) -> Self {
-        Self { singles: steps / 3 * 2, programs: steps / 2_400, pairs: steps / 600 }
+        Self { singles: steps / 3 * 2, programs: steps / 2_400, pairs: steps / 600, loads: steps / 20_000 }
     }
 }
 
 /// About two million steps; a quarter of a minute on the plain interpreter.
-pub const CHECK: Size = Size { singles: 800_000, programs: 1_700, pairs: 4_000 };
+pub const CHECK: Size = Size { singles: 800_000, programs: 1_700, pairs: 4_000, loads: 300 };
 
 /// Runs every mode; lines that say what was compared, or the first difference.
 pub fn all(harness: &mut Harness, size: &Size, seed: u64) -> Result<Vec<String>, String> {

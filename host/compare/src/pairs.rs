@@ -1,12 +1,12 @@
 //! Demand 3 on the judge itself: two machines with S clear, alike but for their consoles, stay alike.
 
-use judge::{Judge, Row};
+use judge::Judge;
+use layout::sr::SUPERVISOR;
+use layout::{Row, at, row};
 use list::Case;
 
 use crate::programs;
 use crate::rng::Rng;
-
-const SUPERVISOR: i64 = 512;
 
 /// The count of steps that both took with S clear.
 pub fn check(rng: &mut Rng, programs: usize, most_steps: usize) -> Result<u64, String> {
@@ -14,7 +14,7 @@ pub fn check(rng: &mut Rng, programs: usize, most_steps: usize) -> Result<u64, S
     let mut steps = 0;
     for _ in 0..programs {
         let mut one = programs::draw(rng);
-        one.row[8] &= !SUPERVISOR;
+        one.row[at::SR] &= !SUPERVISOR;
         let two = other_console(rng, &one);
         for (judge, case) in judges.iter_mut().zip([&one, &two]) {
             let lent = case.lent();
@@ -32,11 +32,11 @@ fn other_console(rng: &mut Rng, one: &Case) -> Case {
     let (queue, output) = (1 + rng.below(9), rng.below(9));
     two.queue = (0..queue).map(|_| rng.byte()).collect();
     two.output = (0..output).map(|_| rng.byte()).collect();
-    two.row[10] = rng.between(0, 1);
-    two.row[11] = rng.between(0, 1);
-    two.row[13] = rng.below(queue) as i64;
-    two.row[14] = rng.below(queue + 1) as i64;
-    two.row[15] = rng.below(output + 1) as i64;
+    two.row[at::ENABLE] = rng.between(0, 1);
+    two.row[at::FLAG] = rng.between(0, 1);
+    two.row[at::QUEUE_START] = rng.below(queue) as i64;
+    two.row[at::QUEUE_COUNT] = rng.below(queue + 1) as i64;
+    two.row[at::OUTPUT_COUNT] = rng.below(output + 1) as i64;
     two
 }
 
@@ -45,7 +45,7 @@ fn together([one, two]: &mut [Judge; 2], most_steps: usize) -> Result<u64, Strin
     let console = |judge: &Judge| (judge.queue().to_vec(), judge.output().to_vec(), rest(judge.row()));
     let before = (console(one), console(two));
     for taken in 0..most_steps as u64 {
-        if one.row()[8] & SUPERVISOR != 0 {
+        if one.row()[at::SR] & SUPERVISOR != 0 {
             return Ok(taken);
         }
         let steps = (one.step(), two.step());
@@ -63,11 +63,13 @@ fn together([one, two]: &mut [Judge; 2], most_steps: usize) -> Result<u64, Strin
 }
 
 /// The console's numbers, the pending mark aside.
-fn rest(row: &Row) -> [i64; 5] {
-    [row[10], row[11], row[13], row[14], row[15]]
+fn rest(row: &Row) -> [i64; row::CONSOLE.len()] {
+    row::CONSOLE.map(|place| row[place])
 }
 
-/// Registers, cycles and the pending mark.
-fn shared(row: &Row) -> ([i64; 10], i64) {
-    (std::array::from_fn(|i| row[i]), row[12])
+/// All others.
+fn shared(row: &Row) -> Row {
+    let mut shared = *row;
+    row::CONSOLE.iter().for_each(|place| shared[*place] = 0);
+    shared
 }

@@ -1,12 +1,16 @@
 //! Programs of many steps: code, data, stack and a handler, with other calls between the runs.
 
+use layout::cell::word as cell_of;
+use layout::limit::CYCLES_MOST;
+use layout::memory::INTERRUPT_HANDLER;
+use layout::{Cell, at, row};
 use list::{Call, Case};
 
 use crate::edges::{address, cell, status, word};
 use crate::forms::*;
 use crate::rng::Rng;
 
-const HANDLER: usize = 200;
+const HANDLER: usize = INTERRUPT_HANDLER as usize;
 
 /// Where a program's parts lie.
 pub struct Layout {
@@ -36,10 +40,7 @@ pub fn draw(rng: &mut Rng) -> Case {
 }
 
 pub fn put_code(rng: &mut Rng, layout: &Layout, case: &mut Case) {
-    for i in 0..16 {
-        let held = if rng.once_in(layout.any_once_in) { cell(rng) } else { [1, near(rng, layout), 0] };
-        case.put((layout.data + i) as usize, held);
-    }
+    put_data(rng, layout, case);
     for i in 0..layout.length {
         let line = line(rng, layout);
         case.put((layout.code + i) as usize, line);
@@ -49,6 +50,13 @@ pub fn put_code(rng: &mut Rng, layout: &Layout, case: &mut Case) {
         0 => case.put(last, instruction(RESET, NONE, NONE)),
         1 | 2 => case.put(last, instruction(JMP, imm(layout.code), NONE)),
         _ => {}
+    }
+}
+
+pub fn put_data(rng: &mut Rng, layout: &Layout, case: &mut Case) {
+    for i in 0..16 {
+        let held = if rng.once_in(layout.any_once_in) { cell(rng) } else { [1, near(rng, layout), 0] };
+        case.put((layout.data + i) as usize, held);
     }
 }
 
@@ -74,29 +82,29 @@ pub fn put_handler(rng: &mut Rng, layout: &Layout, case: &mut Case) {
     }
 }
 
-fn put_row(rng: &mut Rng, layout: &Layout, case: &mut Case) {
+pub fn put_row(rng: &mut Rng, layout: &Layout, case: &mut Case) {
     let row = &mut case.row;
-    for place in [0, 3] {
-        let held = if rng.once_in(4) { cell(rng) } else { [1, near(rng, layout), 0] };
-        row[place..place + 3].copy_from_slice(&held);
+    for place in [at::A, at::B] {
+        let held = if rng.once_in(4) { cell(rng) } else { cell_of(near(rng, layout)) };
+        row::put_cell(row, place, held);
     }
-    row[6] = layout.code + rng.between(0, layout.length - 1);
-    row[7] = rng.pick(&[0, 1, 2_000, 2_000, 9_999, 10_000, 4_294_967_295, layout.data + 8]);
-    row[8] = status(rng);
-    row[9] = if rng.once_in(16) { i64::MAX - rng.between(0, 200) } else { 0 };
-    for mark in &mut row[10..13] {
-        *mark = rng.between(0, 1);
+    row[at::PC] = layout.code + rng.between(0, layout.length - 1);
+    row[at::SP] = rng.pick(&[0, 1, 2_000, 2_000, 9_999, 10_000, 4_294_967_295, layout.data + 8]);
+    row[at::SR] = status(rng);
+    row[at::CYCLES] = if rng.once_in(16) { CYCLES_MOST - rng.between(0, 200) } else { 0 };
+    for mark in row::MARKS {
+        row[mark] = rng.between(0, 1);
     }
 }
 
-fn put_console(rng: &mut Rng, case: &mut Case) {
+pub fn put_console(rng: &mut Rng, case: &mut Case) {
     let queue = rng.pick(&[1, 2, 7, 16]);
     let output = rng.pick(&[0, 3, 64, 64]);
     case.queue = (0..queue).map(|_| rng.byte()).collect();
     case.output = (0..output).map(|_| rng.byte()).collect();
-    case.row[13] = rng.below(queue) as i64;
-    case.row[14] = rng.below(queue + 1) as i64;
-    case.row[15] = rng.below(output + 1) as i64;
+    case.row[at::QUEUE_START] = rng.below(queue) as i64;
+    case.row[at::QUEUE_COUNT] = rng.below(queue + 1) as i64;
+    case.row[at::OUTPUT_COUNT] = rng.below(output + 1) as i64;
 }
 
 /// Runs with other calls between; after a stop the program goes on from another pc.
@@ -109,7 +117,7 @@ fn calls(rng: &mut Rng, layout: &Layout) -> Vec<Call> {
             calls.push(call);
         }
         if rng.below(3) > 0 {
-            calls.push(Call::SetRegister(2, layout.code + rng.between(0, layout.length - 1)));
+            calls.push(Call::SetRegister(PC as u64, layout.code + rng.between(0, layout.length - 1)));
         }
     }
     calls
@@ -133,7 +141,7 @@ pub fn other_call(rng: &mut Rng) -> Call {
 }
 
 /// A word that is useful as an address of data or code, or as a small number.
-fn near(rng: &mut Rng, layout: &Layout) -> i64 {
+pub fn near(rng: &mut Rng, layout: &Layout) -> i64 {
     match rng.below(4) {
         0 => layout.data + rng.between(0, 15),
         1 => layout.code + rng.between(0, layout.length - 1),
@@ -142,7 +150,7 @@ fn near(rng: &mut Rng, layout: &Layout) -> i64 {
 }
 
 /// One instruction of any form, with operands that mostly keep the program going.
-pub fn line(rng: &mut Rng, layout: &Layout) -> [i64; 3] {
+pub fn line(rng: &mut Rng, layout: &Layout) -> Cell {
     let op = operation(rng);
     let target =
         if rng.once_in(8.max(layout.any_once_in / 4)) { rng.between(2, 4) } else { rng.between(0, 1) };
@@ -173,7 +181,7 @@ pub fn line(rng: &mut Rng, layout: &Layout) -> [i64; 3] {
 
 /// Reset, rti and rtn seldom: they end most programs.
 fn operation(rng: &mut Rng) -> i64 {
-    let op = rng.between(0, 32);
+    let op = rng.between(0, OPERATIONS - 1);
     if matches!(op, RESET | RTI | RTN | TRAP) && rng.below(4) > 0 { LD } else { op }
 }
 

@@ -1,6 +1,8 @@
 //! The recorded list: the judge's answers to a fixed choice of cases.
 
 use judge::Judge;
+use layout::at;
+use layout::stop::{BUDGET_SPENT, OUTPUT_FULL};
 use list::{Call, Case, Lent, Recorded, Writer};
 
 use crate::coverage::{Coverage, outcome};
@@ -123,7 +125,7 @@ impl Recorder {
         worked.put(0, [202, 5, 0]);
         worked.put(1, [20_702, 0, 0]);
         let mut full = runner::start();
-        full.row[8] = directed::S;
+        full.row[at::SR] = directed::S;
         full.put(0, instruction(ADD, imm(3), reg(A)));
         full.put(1, instruction(OUT, reg(A), dir(111)));
         full.put(2, instruction(JMP, imm(0), NONE));
@@ -145,7 +147,11 @@ impl Recorder {
             if open.iter().all(|(left, _)| *left == 0) {
                 return Ok(());
             }
-            let limit = if open[0].0 + open[6].0 > 0 { runner::BUDGET } else { LIMIT };
+            let limit = if open[BUDGET_SPENT as usize].0 + open[OUTPUT_FULL as usize].0 > 0 {
+                runner::BUDGET
+            } else {
+                LIMIT
+            };
             let Some((case, answer)) = runner::draw(&mut rng, &mut judge, limit) else { continue };
             let Some((left, least)) = open.get_mut(answer.stop as usize) else { continue };
             if *left > 0 && answer.count >= *least {

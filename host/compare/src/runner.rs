@@ -1,16 +1,14 @@
 //! Programs for the runner: its sizes and start row, and no cell touched from 2,048 on.
 
-use judge::{Judge, Row};
+use judge::Judge;
+pub use layout::runner::BUDGET;
+use layout::runner::{CELLS as RUNNER_CELLS, OUTPUT, QUEUE};
+use layout::{Cell, Row, at, cell, row};
 use list::{Answer, CELLS, Call, Case, Lent, Machine, Plain};
 
 use crate::forms::*;
 use crate::programs::{Layout, put_code, put_handler};
 use crate::rng::Rng;
-
-pub const RUNNER_CELLS: usize = 2_048;
-pub const QUEUE: usize = 256;
-pub const OUTPUT: usize = 4_096;
-pub const BUDGET: u32 = 100_000;
 
 /// A program that the runner runs as the judge does; none where the draw touched a cell from 2,048 on,
 /// or that has not stopped when the limit, in steps, is at an end.
@@ -24,9 +22,9 @@ pub fn draw(rng: &mut Rng, judge: &mut Judge, limit: u32) -> Option<(Case, Answe
     let mut case = start();
     put_code(rng, &layout, &mut case);
     put_handler(rng, &layout, &mut case);
-    case.row[6] = layout.code;
-    case.row[7] = rng.pick(&[0, 1, 400, 400, 400, 1_500, 2_047, layout.data + 8]);
-    case.row[8] = rng.pick(&[0, 0, 256, 512, 512, 512, 768, 14, 526, -1]);
+    case.row[at::PC] = layout.code;
+    case.row[at::SP] = rng.pick(&[0, 1, 400, 400, 400, 1_500, 2_047, layout.data + 8]);
+    case.row[at::SR] = rng.pick(&[0, 0, 256, 512, 512, 512, 768, 14, 526, -1]);
     if rng.below(3) > 0 {
         count_down(rng, &layout, &mut case);
     }
@@ -61,7 +59,7 @@ fn count_down(rng: &mut Rng, layout: &Layout, case: &mut Case) {
     for (i, line) in lines.into_iter().enumerate() {
         case.put(end as usize + i, line);
     }
-    case.put(counter as usize, [1, rng.between(1, 60), 0]);
+    case.put(counter as usize, cell::word(rng.between(1, 60)));
     let last = end as usize - 1;
     case.put(last, instruction(NOP, NONE, NONE));
 }
@@ -71,11 +69,11 @@ pub fn same_in_the_runner(judge: &mut Judge, case: &Case, limit: u32) -> Option<
     let lent = case.lent();
     judge.put(&lent.cells, &lent.queue, &lent.output, &lent.row);
     let answer = run_below(judge, limit)?;
-    let mut small = Lent { cells: lent.cells[..3 * RUNNER_CELLS].to_vec(), ..lent };
+    let mut small = Lent { cells: lent.cells[..cell::LENGTH * RUNNER_CELLS].to_vec(), ..lent };
     let same = Plain.run(&mut small, BUDGET) == answer
         && small.row == *judge.row()
         && small.output == judge.output()
-        && small.cells == judge.cells()[..3 * RUNNER_CELLS];
+        && small.cells == judge.cells()[..cell::LENGTH * RUNNER_CELLS];
     same.then_some(answer)
 }
 
@@ -89,20 +87,19 @@ fn run_below(judge: &mut Judge, limit: u32) -> Option<Answer> {
             return None;
         }
         if !step.completed {
-            return Some(Answer { stop: step.stop, detail: step.detail, count, refusal: 0 });
+            return Some(Answer { stop: step.stop, detail: step.detail, count, ..Answer::DONE });
         }
     }
     (limit >= BUDGET).then_some(Answer { count: BUDGET.into(), ..Answer::DONE })
 }
 
 /// Whether pc, the stack or an operand, by the registers before or after, names a cell from 2,048 on.
-fn touches(before: &Row, after: &Row, cell: Option<[i64; 3]>) -> bool {
+fn touches(before: &Row, after: &Row, cell: Option<Cell>) -> bool {
     let mut moved = *before;
-    moved[6] += 1;
-    let mut places = vec![before[6], before[7], after[7]];
+    moved[at::PC] += 1;
+    let mut places = vec![before[at::PC], before[at::SP], after[at::SP]];
     if let Some([tag, first, second]) = cell {
-        let Form { m1, m2, .. } = Form::of_tag(tag);
-        let (r1, r2) = ((tag - 2) % 25 / 5, (tag - 2) % 5);
+        let (Form { m1, m2, .. }, (r1, r2)) = split(tag);
         for row in [&moved, after] {
             places.push(named(row, m1, r1, first));
             places.push(named(row, m2, r2, second));
@@ -114,9 +111,11 @@ fn touches(before: &Row, after: &Row, cell: Option<[i64; 3]>) -> bool {
 /// The address of a memory operand, and 0 for any other.
 fn named(row: &Row, mode: i64, base: i64, number: i64) -> i64 {
     let word = match base {
-        A => row[1],
-        B => row[4],
-        other => row[4 + other as usize],
+        A => row::cell(row, at::A)[1],
+        B => row::cell(row, at::B)[1],
+        PC => row[at::PC],
+        SP => row[at::SP],
+        _ => row[at::SR],
     };
     match mode {
         DIR => number,

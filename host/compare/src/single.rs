@@ -1,12 +1,14 @@
 //! Single steps from edge rows and cells: the forms in turn, each with what its operands point to.
 
-use list::{Call, Case};
+use layout::cell::{EMPTY, word as cell_of, word_in};
+use layout::limit::{CYCLES_MOST, OUTPUT_MOST, QUEUE_MOST};
+use layout::memory::{INTERRUPT_HANDLER, SAVES};
+use layout::{Cell, at, row};
+use list::{CELLS, Call, Case};
 
 use crate::edges::{self, address, cell, instruction, status, word};
 use crate::forms::*;
 use crate::rng::Rng;
-
-const MOST_CYCLES: i64 = i64::MAX;
 
 /// The turn chooses the form; every 125th is a fetch of what is no instruction.
 pub fn draw(rng: &mut Rng, forms: &[Form], turn: usize) -> Case {
@@ -23,26 +25,26 @@ pub fn draw(rng: &mut Rng, forms: &[Form], turn: usize) -> Case {
 
 fn draw_row(rng: &mut Rng, case: &mut Case) {
     let row = &mut case.row;
-    row[..3].copy_from_slice(&cell(rng));
-    row[3..6].copy_from_slice(&cell(rng));
-    row[6] = inside(rng);
-    row[7] = address(rng);
-    row[8] = status(rng);
-    row[9] = if rng.once_in(8) { MOST_CYCLES - rng.between(0, 3) } else { rng.between(0, 1_000) };
-    for mark in &mut row[10..13] {
-        *mark = rng.between(0, 1);
+    row::put_cell(row, at::A, cell(rng));
+    row::put_cell(row, at::B, cell(rng));
+    row[at::PC] = inside(rng);
+    row[at::SP] = address(rng);
+    row[at::SR] = status(rng);
+    row[at::CYCLES] = if rng.once_in(8) { CYCLES_MOST - rng.between(0, 3) } else { rng.between(0, 1_000) };
+    for mark in row::MARKS {
+        row[mark] = rng.between(0, 1);
     }
 }
 
 /// Mostly short buffers, so that full and empty ones occur; rarely the longest.
 fn draw_console(rng: &mut Rng, case: &mut Case) {
-    let queue = if rng.once_in(512) { 4_096 } else { rng.pick(&[1, 1, 2, 3, 5, 8]) };
-    let output = if rng.once_in(512) { 65_536 } else { rng.pick(&[0, 1, 2, 4, 8]) };
+    let queue = if rng.once_in(512) { QUEUE_MOST } else { rng.pick(&[1, 1, 2, 3, 5, 8]) };
+    let output = if rng.once_in(512) { OUTPUT_MOST } else { rng.pick(&[0, 1, 2, 4, 8]) };
     case.queue = (0..queue).map(|_| rng.byte()).collect();
     case.output = (0..output).map(|_| rng.byte()).collect();
-    case.row[13] = rng.below(queue) as i64;
-    case.row[14] = count(rng, queue);
-    case.row[15] = count(rng, output);
+    case.row[at::QUEUE_START] = rng.below(queue) as i64;
+    case.row[at::QUEUE_COUNT] = count(rng, queue);
+    case.row[at::OUTPUT_COUNT] = count(rng, output);
 }
 
 /// None, all or some.
@@ -56,10 +58,10 @@ fn count(rng: &mut Rng, length: usize) -> i64 {
 
 fn draw_handler(rng: &mut Rng, case: &mut Case) {
     let handler = if rng.once_in(2) { instruction(rng) } else { [rng.between(0, 1), 0, 0] };
-    case.put(200, handler);
-    for saved in 100..103 {
+    case.put(INTERRUPT_HANDLER as usize, handler);
+    for saved in SAVES {
         let held = cell(rng);
-        case.put(saved, held);
+        case.put(saved as usize, held);
     }
 }
 
@@ -74,11 +76,11 @@ fn inside(rng: &mut Rng) -> i64 {
 
 fn draw_bad_fetch(rng: &mut Rng, case: &mut Case) {
     if rng.once_in(2) {
-        case.row[6] = rng.pick(&[10_000, 10_001, 2_147_483_648, 4_294_967_294, 4_294_967_295]);
+        case.row[at::PC] = rng.pick(&[10_000, 10_001, 2_147_483_648, 4_294_967_294, 4_294_967_295]);
     } else {
-        let held = [1, word(rng), 0];
-        let held = if rng.once_in(2) { held } else { [0, 0, 0] };
-        case.put(case.row[6] as usize, held);
+        let held = cell_of(word(rng));
+        let held = if rng.once_in(2) { held } else { EMPTY };
+        case.put(case.row[at::PC] as usize, held);
     }
 }
 
@@ -95,18 +97,18 @@ fn draw_instruction(rng: &mut Rng, case: &mut Case, form: Form) {
     }
     let n1 = number_for(rng, case, form, form.m1, r1);
     let n2 = number_for(rng, case, form, form.m2, r2);
-    let pc = case.row[6] as usize;
+    let pc = case.row[at::PC] as usize;
     case.put(pc, [form.tag(r1, r2), n1, n2]);
 }
 
 fn register_for(rng: &mut Rng, mode: i64) -> i64 {
-    if matches!(mode, REG | IND | IDX) { rng.between(0, 4) } else { 0 }
+    if matches!(mode, REG | IND | IDX) { rng.between(0, REGISTERS - 1) } else { 0 }
 }
 
 /// What pop and rtn find.
 fn draw_stack(rng: &mut Rng, case: &mut Case) {
-    let sp = case.row[7];
-    if sp < 10_000 {
+    let sp = case.row[at::SP];
+    if sp < CELLS as i64 {
         let held = cell(rng);
         case.put(sp as usize, held);
     }
@@ -156,43 +158,43 @@ fn immediate(rng: &mut Rng, op: i64) -> i64 {
 fn base(case: &Case, reg: i64) -> Option<i64> {
     let row = &case.row;
     match reg {
-        A => (row[0] < 2).then_some(row[1]),
-        B => (row[3] < 2).then_some(row[4]),
-        PC => Some(row[6] + 1),
-        SP => Some(row[7]),
-        _ => Some(row[8]),
+        A => word_in(row::cell(row, at::A)),
+        B => word_in(row::cell(row, at::B)),
+        PC => Some(row[at::PC] + 1),
+        SP => Some(row[at::SP]),
+        _ => Some(row[at::SR]),
     }
 }
 
 /// pc and sr keep what they have.
 fn set_base(case: &mut Case, reg: i64, word: i64) {
     if reg == SP {
-        case.row[7] = word;
+        case.row[at::SP] = word;
     } else {
-        set_cell(case, reg, [1, word, 0]);
+        set_cell(case, reg, cell_of(word));
     }
 }
 
 /// a and b alone hold cells.
-fn set_cell(case: &mut Case, reg: i64, cell: [i64; 3]) {
+fn set_cell(case: &mut Case, reg: i64, cell: Cell) {
     match reg {
-        A => case.row[..3].copy_from_slice(&cell),
-        B => case.row[3..6].copy_from_slice(&cell),
+        A => row::put_cell(&mut case.row, at::A, cell),
+        B => row::put_cell(&mut case.row, at::B, cell),
         _ => {}
     }
 }
 
 /// A cell for an operand to find; div and the shifts turn on small numbers.
-fn held(rng: &mut Rng, op: i64) -> [i64; 3] {
+fn held(rng: &mut Rng, op: i64) -> Cell {
     match op {
-        DIV | SHL | SHR if rng.once_in(2) => [1, rng.between(-3, 66), 0],
+        DIV | SHL | SHR if rng.once_in(2) => cell_of(rng.between(-3, 66)),
         _ => cell(rng),
     }
 }
 
 /// Puts some cell where an operand points, if that is a cell; the address.
 fn point_at(rng: &mut Rng, case: &mut Case, op: i64, address: i64) -> i64 {
-    if (0..10_000).contains(&address) && (address != 200 || rng.once_in(4)) {
+    if (0..CELLS as i64).contains(&address) && (address != INTERRUPT_HANDLER.into() || rng.once_in(4)) {
         let held = held(rng, op);
         case.put(address as usize, held);
     }

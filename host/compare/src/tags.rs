@@ -1,6 +1,7 @@
 //! Every tag with edge numbers: a cell is sound by document 01's rule where it is a cell of the original's types,
 //! and an instruction's cost is the original's own.
 
+use layout::Cell;
 use plain::{cost, sound};
 
 use crate::edges::WORDS;
@@ -31,7 +32,7 @@ pub fn check() -> Result<u64, String> {
     Ok(looked)
 }
 
-fn same(cell: [i64; 3]) -> Result<(), String> {
+fn same(cell: Cell) -> Result<(), String> {
     if judge::is_sound(cell) != sound(cell) {
         return Err(format!("cell {cell:?}: document 01 and the original's types differ"));
     }

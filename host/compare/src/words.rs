@@ -1,11 +1,13 @@
 //! All pairs of edge words through every operation on two words, into a, sp and sr; and each word through neg and not.
 
+use layout::cell::word as cell_of;
+use layout::limit::ADDRESS_LAST;
+use layout::sr::SUPERVISOR;
+use layout::{Cell, at, row};
 use list::{Call, Case};
 
 use crate::edges::WORDS;
 use crate::forms::*;
-
-const SUPERVISOR: i64 = 512;
 
 /// Calls `each` with every case; the first error ends it.
 pub fn each(mut each: impl FnMut(&Case) -> Result<(), String>) -> Result<(), String> {
@@ -35,16 +37,16 @@ pub fn each(mut each: impl FnMut(&Case) -> Result<(), String>) -> Result<(), Str
 }
 
 /// One step in supervisor mode with the word in that register; none where sp cannot hold it.
-fn with_register(cell: [i64; 3], target: i64, word: i64) -> Option<Case> {
+fn with_register(cell: Cell, target: i64, word: i64) -> Option<Case> {
     let mut case = Case { queue: vec![0], calls: vec![Call::Run(1)], ..Case::default() };
-    case.row[8] = SUPERVISOR;
+    case.row[at::SR] = SUPERVISOR;
     case.put(1_000, cell);
-    case.row[6] = 1_000;
+    case.row[at::PC] = 1_000;
     match target {
-        A => case.row[..3].copy_from_slice(&[1, word, 0]),
-        SP if !(0..=4_294_967_295).contains(&word) => return None,
-        SP => case.row[7] = word,
-        _ => case.row[8] = word | SUPERVISOR,
+        A => row::put_cell(&mut case.row, at::A, cell_of(word)),
+        SP if !(0..=ADDRESS_LAST).contains(&word) => return None,
+        SP => case.row[at::SP] = word,
+        _ => case.row[at::SR] = word | SUPERVISOR,
     }
     Some(case)
 }

@@ -1,6 +1,9 @@
 //! Numbers at which something changes, and draws from them.
 
-use crate::forms::{DIR, Form, IDX, IMM, IND, REG, all};
+use layout::Cell;
+use layout::cell::{self, EMPTY};
+
+use crate::forms::{DIR, Form, IDX, IMM, IND, REG, REGISTERS, all};
 use crate::rng::Rng;
 
 pub const WORDS: [i64; 60] = [
@@ -89,18 +92,18 @@ pub fn address(rng: &mut Rng) -> i64 {
     }
 }
 
-pub fn cell(rng: &mut Rng) -> [i64; 3] {
+pub fn cell(rng: &mut Rng) -> Cell {
     match rng.below(9) {
-        0 => [0, 0, 0],
-        1..=3 => [1, word(rng), 0],
-        4..=5 => [1, address(rng), 0],
-        6 => [1, rng.between(-2, 66), 0],
+        0 => EMPTY,
+        1..=3 => cell::word(word(rng)),
+        4..=5 => cell::word(address(rng)),
+        6 => cell::word(rng.between(-2, 66)),
         _ => instruction(rng),
     }
 }
 
 /// A sound instruction of any form.
-pub fn instruction(rng: &mut Rng) -> [i64; 3] {
+pub fn instruction(rng: &mut Rng) -> Cell {
     let form = rng.pick(all_forms());
     let (r1, n1) = operand(rng, form.m1);
     let (r2, n2) = operand(rng, form.m2);
@@ -110,9 +113,9 @@ pub fn instruction(rng: &mut Rng) -> [i64; 3] {
 fn operand(rng: &mut Rng, mode: i64) -> (i64, i64) {
     match mode {
         IMM => (0, word(rng)),
-        REG | IND => (rng.between(0, 4), 0),
+        REG | IND => (rng.between(0, REGISTERS - 1), 0),
         DIR => (0, address(rng)),
-        IDX => (rng.between(0, 4), word(rng)),
+        IDX => (rng.between(0, REGISTERS - 1), word(rng)),
         _ => (0, 0),
     }
 }

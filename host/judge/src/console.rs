@@ -1,10 +1,8 @@
 //! The serial console's private state, built and read through its public operations.
 
-use crate::runtime::{Device, SerialConsole};
+use layout::memory::{SERIAL_DATA_PORT as DATA, SERIAL_STATUS_PORT as STATUS, STATUS_INTERRUPT};
 
-const STATUS: u32 = 110;
-const DATA: u32 = 111;
-const FLAG_BIT: i64 = 4;
+use crate::runtime::{Device, SerialConsole};
 
 #[derive(Clone, Copy, Debug, PartialEq, Eq)]
 pub(crate) struct Marks {
@@ -47,7 +45,7 @@ fn mark(console: &mut SerialConsole, needs_byte: bool, marks: Marks) {
 pub(crate) fn probe(console: &SerialConsole) -> (Vec<u8>, Marks) {
     let mut copy = console.clone();
     let pending = copy.poll_interrupt();
-    let flag = copy.read(STATUS) & FLAG_BIT != 0;
+    let flag = copy.read(STATUS) & STATUS_INTERRUPT != 0;
     let mut unread = Vec::new();
     while copy.input_ready() {
         unread.push(u8::try_from(copy.read(DATA)).expect("the data port reads a byte"));

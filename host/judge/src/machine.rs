@@ -5,21 +5,26 @@
 //! 102; the console only after `in`, `out` or with the pending mark set. `verify` compares all of the buffers
 //! with the `Computer`, so that this short way is itself checked.
 
+use layout::cell::{self, is_instruction};
+use layout::code::{
+    DIV_BY_ZERO, HARDWARE_INTERRUPT, INVALID_INSTRUCTION, INVALID_MEMORY_ACCESS, PRIVILEGED_INSTRUCTION, TRAP,
+};
+use layout::limit::{CYCLES_MOST, OUTPUT_MOST, QUEUE_LEAST, QUEUE_MOST};
+use layout::mode::DIR;
+use layout::op::{IN, OUT};
+use layout::{Cell as Flat, Form, ROW, Row, at, refusal, reg, row, stop};
+
 use crate::console::{self, Marks};
 use crate::constants::{
     INTERRUPT_EXCEPTION, INTERRUPT_HANDLER, INTERRUPT_PC_SAVE, INTERRUPT_SR_SAVE, MEMORY_SIZE,
 };
-use crate::encoding::{self, Flat, decode, encode};
+use crate::encoding::{self, decode, encode};
 use crate::places::{CELLS, Places, SAVES, may_have_written};
-use crate::row::{
-    A, B, COUNT, CYCLES, DAMAGED, ENABLE, FLAG, PC, PENDING, Row, SP, SR, START, WRITTEN, place,
-};
+use crate::row::{DAMAGED, place};
 use crate::runtime::registers::StatusRegister;
 use crate::runtime::{Computer, Exception, Instruction, IoBus, Memory, ProcessorError, Registers};
 
-const MOST_CYCLES: usize = i64::MAX as usize;
-const IN: i64 = 6;
-const OUT: i64 = 20;
+const MOST_CYCLES: usize = CYCLES_MOST as usize;
 
 /// What one step came to. `stop` and `detail` are document 01's, both 0 where the step was completed.
 #[derive(Clone, Copy, Debug, PartialEq, Eq)]
@@ -69,10 +74,10 @@ impl Judge {
         computer.registers.sr = StatusRegister::from_bits_retain(0);
         Self {
             computer,
-            cells: vec![0; 3 * CELLS],
+            cells: vec![0; cell::LENGTH * CELLS],
             queue: vec![0],
             output: Vec::new(),
-            row: [0; 16],
+            row: [0; ROW],
             changed: Vec::new(),
         }
     }
@@ -100,10 +105,10 @@ impl Judge {
 
     /// Another machine; only the cells that differ are rebuilt.
     pub fn put(&mut self, cells: &[i64], queue: &[u8], output: &[u8], row: &Row) {
-        assert_eq!(cells.len(), 3 * CELLS, "{DAMAGED}");
+        assert_eq!(cells.len(), cell::LENGTH * CELLS, "{DAMAGED}");
         for address in 0..CELLS {
-            let cell = flat_at(cells, address);
-            if cell != flat_at(&self.cells, address) {
+            let cell = cell::get(cells, address);
+            if cell != cell::get(&self.cells, address) {
                 self.put_cell(address, cell);
             }
         }
@@ -112,7 +117,7 @@ impl Judge {
 
     pub fn put_cell(&mut self, address: usize, cell: Flat) {
         put_cell(&mut self.computer.memory, address, cell);
-        self.cells[3 * address..3 * address + 3].copy_from_slice(&cell);
+        cell::put(&mut self.cells, address, cell);
     }
 
     /// Everything but the cells.
@@ -120,9 +125,15 @@ impl Judge {
         self.queue = queue.to_vec();
         self.output = output.to_vec();
         self.row = *row;
-        assert!((1..=4_096).contains(&queue.len()) && output.len() <= 65_536, "{DAMAGED}");
-        assert!(place(row, START) < queue.len() && place(row, COUNT) <= queue.len(), "{DAMAGED}");
-        assert!(place(row, WRITTEN) <= output.len(), "{DAMAGED}");
+        assert!(
+            (QUEUE_LEAST..=QUEUE_MOST).contains(&queue.len()) && output.len() <= OUTPUT_MOST,
+            "{DAMAGED}"
+        );
+        assert!(
+            place(row, at::QUEUE_START) < queue.len() && place(row, at::QUEUE_COUNT) <= queue.len(),
+            "{DAMAGED}"
+        );
+        assert!(place(row, at::OUTPUT_COUNT) <= output.len(), "{DAMAGED}");
         self.rebuild_row();
     }
 
@@ -138,13 +149,13 @@ impl Judge {
         let bytes = self.take_output(fetched);
         let next = self.registers_now();
         let maybe = may_have_written(&self.row, &next, &self.at_entry(next), fetched);
-        if bytes.len() > self.output.len() - place(&self.row, WRITTEN) {
+        if bytes.len() > self.output.len() - place(&self.row, at::OUTPUT_COUNT) {
             self.put_back(&maybe);
-            return stopped(6, 0);
+            return stopped(stop::OUTPUT_FULL, 0);
         }
         if self.computer.cycles > MOST_CYCLES {
             self.put_back(&maybe);
-            return stopped(7, 0);
+            return stopped(stop::CYCLES_FULL, 0);
         }
         let step = match result {
             Ok(()) => self.completed(fetched, &next, &maybe),
@@ -152,7 +163,7 @@ impl Judge {
         };
         self.commit(next, &maybe);
         self.record(&bytes);
-        if self.row[PENDING] == 1 || matches!(fetched.map(operation), Some(IN | OUT)) {
+        if self.row[at::PENDING] == 1 || matches!(fetched.map(operation), Some(IN | OUT)) {
             self.read_console();
         }
         step
@@ -167,7 +178,7 @@ impl Judge {
                 return Ran { stop, detail, steps };
             }
         }
-        Ran { stop: 0, detail: 0, steps: budget.into() }
+        Ran { stop: stop::BUDGET_SPENT, detail: 0, steps: budget.into() }
     }
 
     /// `Computer::step` alone, to time it: the buffers stay behind until `refresh`.
@@ -183,7 +194,7 @@ impl Judge {
     pub fn refresh(&mut self) {
         for address in 0..CELLS {
             let cell = encode(self.computer.memory.get(address as u32).expect("below the size"));
-            self.cells[3 * address..3 * address + 3].copy_from_slice(&cell);
+            cell::put(&mut self.cells, address, cell);
         }
         self.row = self.registers_now();
     }
@@ -191,18 +202,18 @@ impl Judge {
     /// The refusal's number, 0 where the bytes were delivered.
     pub fn deliver(&mut self, bytes: &[u8]) -> u64 {
         self.changed.clear();
-        let (start, count) = (place(&self.row, START), place(&self.row, COUNT));
+        let (start, count) = (place(&self.row, at::QUEUE_START), place(&self.row, at::QUEUE_COUNT));
         if bytes.len() > self.queue.len() - count {
-            return 6;
+            return refusal::DELIVERY;
         }
         let length = self.queue.len();
         for (i, byte) in bytes.iter().enumerate() {
             self.queue[(start + count + i) % length] = *byte;
         }
-        self.row[COUNT] += bytes.len() as i64;
+        self.row[at::QUEUE_COUNT] += bytes.len() as i64;
         self.computer.io.serial.push_input(bytes);
         self.read_console();
-        0
+        refusal::NONE
     }
 
     /// The bytes written since the last drain.
@@ -210,8 +221,8 @@ impl Judge {
         self.changed.clear();
         let rest = self.computer.io.serial.drain_output();
         assert!(rest.is_empty(), "each step's byte was taken when it was written");
-        let written = place(&self.row, WRITTEN);
-        self.row[WRITTEN] = 0;
+        let written = place(&self.row, at::OUTPUT_COUNT);
+        self.row[at::OUTPUT_COUNT] = 0;
         self.output[..written].to_vec()
     }
 
@@ -220,27 +231,24 @@ impl Judge {
         self.changed.clear();
         let exception = exception(code, &self.computer.memory)?;
         if let Err(left) = self.computer.recover_from_exception(&exception) {
-            return Some(Raised { stop: 2, detail: left.code() as u64 });
+            return Some(Raised { stop: stop::NO_HANDLER, detail: left.code() as u64 });
         }
         self.computer.cycles += 1;
         let mut saves: Places = [None; 8];
         saves[..3].copy_from_slice(&SAVES);
         if self.computer.cycles > MOST_CYCLES {
             self.put_back(&saves);
-            return Some(Raised { stop: 7, detail: 0 });
+            return Some(Raised { stop: stop::CYCLES_FULL, detail: 0 });
         }
         let next = self.registers_now();
         self.commit(next, &saves);
-        Some(Raised { stop: 0, detail: 0 })
+        Some(Raised { stop: stop::ENTERED, detail: 0 })
     }
 
     /// The rule of dap's `set_register`: a, b, pc and sp take a word. False where it is refused.
     pub fn set_register(&mut self, reg: u64, word: i64) -> bool {
         self.changed.clear();
-        if reg > 3 {
-            return false;
-        }
-        let Some(reg) = encoding::reg(reg as i64) else { return false };
+        let Some(reg) = encoding::reg(reg as i64).filter(|_| reg as i64 != reg::SR) else { return false };
         let taken = self.computer.registers.set(reg, word.into()).is_ok();
         self.row = self.registers_now();
         taken
@@ -250,7 +258,7 @@ impl Judge {
     pub fn verify(&self) -> Result<(), String> {
         for address in 0..CELLS {
             let cell = encode(self.computer.memory.get(address as u32).expect("below the size"));
-            if cell != flat_at(&self.cells, address) {
+            if cell != cell::get(&self.cells, address) {
                 return Err(format!("the original's cell {address} is {cell:?}"));
             }
         }
@@ -271,29 +279,29 @@ impl Judge {
 
     /// The cell that the next step fetches, if it is an instruction.
     fn fetched(&self) -> Option<Flat> {
-        let pc = place(&self.row, PC);
-        let cell = (pc < CELLS).then(|| flat_at(&self.cells, pc))?;
-        (cell[0] >= 2).then_some(cell)
+        let pc = place(&self.row, at::PC);
+        let cell = (pc < CELLS).then(|| cell::get(&self.cells, pc))?;
+        is_instruction(cell).then_some(cell)
     }
 
     /// The row with the `Computer`'s registers and cycles in it.
     fn registers_now(&self) -> Row {
         let Registers { a, b, pc, sp, sr } = &self.computer.registers;
         let mut row = self.row;
-        row[A..A + 3].copy_from_slice(&encode(a));
-        row[B..B + 3].copy_from_slice(&encode(b));
-        row[PC] = (*pc).into();
-        row[SP] = (*sp).into();
-        row[SR] = sr.bits();
-        row[CYCLES] = self.computer.cycles as i64;
+        row::put_cell(&mut row, at::A, encode(a));
+        row::put_cell(&mut row, at::B, encode(b));
+        row[at::PC] = (*pc).into();
+        row[at::SP] = (*sp).into();
+        row[at::SR] = sr.bits();
+        row[at::CYCLES] = self.computer.cycles as i64;
         row
     }
 
     /// The registers that the instruction left where an exception was then entered: pc and sr were saved.
     fn at_entry(&self, mut next: Row) -> Row {
-        if next[PC] == i64::from(INTERRUPT_HANDLER) {
-            next[PC] = self.saved(INTERRUPT_PC_SAVE);
-            next[SR] = self.saved(INTERRUPT_SR_SAVE);
+        if next[at::PC] == i64::from(INTERRUPT_HANDLER) {
+            next[at::PC] = self.saved(INTERRUPT_PC_SAVE);
+            next[at::SR] = self.saved(INTERRUPT_SR_SAVE);
         }
         next
     }
@@ -313,23 +321,23 @@ impl Judge {
 
     fn record(&mut self, bytes: &[u8]) {
         for byte in bytes {
-            self.output[place(&self.row, WRITTEN)] = *byte;
-            self.row[WRITTEN] += 1;
+            self.output[place(&self.row, at::OUTPUT_COUNT)] = *byte;
+            self.row[at::OUTPUT_COUNT] += 1;
         }
     }
 
     /// Which exception a completed step entered, from the cycles it added.
     fn completed(&mut self, fetched: Option<Flat>, next: &Row, maybe: &Places) -> Step {
-        let added = next[CYCLES] - self.row[CYCLES];
+        let added = next[at::CYCLES] - self.row[at::CYCLES];
         let entered = match fetched.map(cost_of) {
-            Some(cost) if added == cost + 1 => Some(0),
-            Some(1) if added == 1 && next[PC] == i64::from(INTERRUPT_HANDLER) => {
+            Some(cost) if added == cost + 1 => Some(HARDWARE_INTERRUPT),
+            Some(1) if added == 1 && next[at::PC] == i64::from(INTERRUPT_HANDLER) => {
                 self.entry_or_jump(fetched, maybe)
             }
             Some(cost) if added == cost => None,
             _ => Some(self.saved(INTERRUPT_EXCEPTION) as u64),
         };
-        Step { stop: 0, detail: 0, completed: true, entered }
+        Step { stop: stop::BUDGET_SPENT, detail: 0, completed: true, entered }
     }
 
     /// An instruction of cost 1 that ends at the handler either jumped there or raised an exception: both add
@@ -352,8 +360,8 @@ impl Judge {
         self.row = next;
         for address in maybe.iter().flatten().copied() {
             let cell = encode(self.computer.memory.get(address as u32).expect("below the size"));
-            if cell != flat_at(&self.cells, address) {
-                self.cells[3 * address..3 * address + 3].copy_from_slice(&cell);
+            if cell != cell::get(&self.cells, address) {
+                cell::put(&mut self.cells, address, cell);
                 self.changed.push(address);
             }
         }
@@ -362,7 +370,7 @@ impl Judge {
     /// Makes the `Computer` what the buffers say again.
     fn put_back(&mut self, maybe: &Places) {
         for address in maybe.iter().flatten().copied() {
-            put_cell(&mut self.computer.memory, address, flat_at(&self.cells, address));
+            put_cell(&mut self.computer.memory, address, cell::get(&self.cells, address));
         }
         self.rebuild_row();
     }
@@ -371,49 +379,49 @@ impl Judge {
     fn rebuild_row(&mut self) {
         let row = &self.row;
         self.computer.registers = Registers {
-            a: decode([row[A], row[A + 1], row[A + 2]]).expect(DAMAGED),
-            b: decode([row[B], row[B + 1], row[B + 2]]).expect(DAMAGED),
-            pc: row[PC].try_into().expect(DAMAGED),
-            sp: row[SP].try_into().expect(DAMAGED),
-            sr: StatusRegister::from_bits_retain(row[SR]),
+            a: decode(row::cell(row, at::A)).expect(DAMAGED),
+            b: decode(row::cell(row, at::B)).expect(DAMAGED),
+            pc: row[at::PC].try_into().expect(DAMAGED),
+            sp: row[at::SP].try_into().expect(DAMAGED),
+            sr: StatusRegister::from_bits_retain(row[at::SR]),
         };
-        self.computer.cycles = row[CYCLES].try_into().expect(DAMAGED);
+        self.computer.cycles = row[at::CYCLES].try_into().expect(DAMAGED);
         self.computer.io = IoBus { serial: console::build(&self.unread(), self.marks()) };
     }
 
     /// The bytes from the queue's start, wrapping at its end.
     fn unread(&self) -> Vec<u8> {
-        let (start, count) = (place(&self.row, START), place(&self.row, COUNT));
+        let (start, count) = (place(&self.row, at::QUEUE_START), place(&self.row, at::QUEUE_COUNT));
         (0..count).map(|i| self.queue[(start + i) % self.queue.len()]).collect()
     }
 
     fn marks(&self) -> Marks {
-        let [enable, flag, pending] = [ENABLE, FLAG, PENDING].map(|i| self.row[i] == 1);
+        let [enable, flag, pending] = row::MARKS.map(|i| self.row[i] == 1);
         Marks { enable, flag, pending }
     }
 
     /// Takes the console's marks and what was read from the queue into the row.
     fn read_console(&mut self) {
         let (unread, marks) = console::probe(&self.computer.io.serial);
-        let read = place(&self.row, COUNT) - unread.len();
-        let start = (place(&self.row, START) + read) % self.queue.len();
-        self.row[START] = start as i64;
-        self.row[COUNT] = unread.len() as i64;
-        self.row[ENABLE] = marks.enable.into();
-        self.row[FLAG] = marks.flag.into();
-        self.row[PENDING] = marks.pending.into();
+        let read = place(&self.row, at::QUEUE_COUNT) - unread.len();
+        let start = (place(&self.row, at::QUEUE_START) + read) % self.queue.len();
+        self.row[at::QUEUE_START] = start as i64;
+        self.row[at::QUEUE_COUNT] = unread.len() as i64;
+        self.row[at::ENABLE] = marks.enable.into();
+        self.row[at::FLAG] = marks.flag.into();
+        self.row[at::PENDING] = marks.pending.into();
         assert_eq!(unread, self.unread(), "the ring holds what the original has yet to read");
     }
 }
 
 fn operation([tag, ..]: Flat) -> i64 {
-    (tag - 2) / 25 / 36
+    Form::of_tag(tag).op
 }
 
 /// One cycle and one for each memory operand: `compare` checks this against the original's `cost` for every form.
 fn cost_of([tag, ..]: Flat) -> i64 {
-    let modes = (tag - 2) / 25;
-    1 + i64::from(modes / 6 % 6 >= 3) + i64::from(modes % 6 >= 3)
+    let Form { m1, m2, .. } = Form::of_tag(tag);
+    1 + i64::from(m1 >= DIR) + i64::from(m2 >= DIR)
 }
 
 fn instruction_of(flat: Flat) -> Option<Instruction> {
@@ -426,23 +434,25 @@ fn stopped(stop: u64, detail: u64) -> Step {
 
 fn stop_of(error: &ProcessorError) -> Step {
     match error {
-        ProcessorError::Reset => stopped(1, 0),
-        ProcessorError::Exception(exception) => stopped(2, exception.code() as u64),
-        ProcessorError::CellError(_) => stopped(3, 0),
-        ProcessorError::Extract(_) => stopped(4, 0),
-        ProcessorError::InvalidRegister { reg, .. } => stopped(5, encoding::reg_number(*reg) as u64),
+        ProcessorError::Reset => stopped(stop::RESET, 0),
+        ProcessorError::Exception(exception) => stopped(stop::NO_HANDLER, exception.code() as u64),
+        ProcessorError::CellError(_) => stopped(stop::CELL_ERROR, 0),
+        ProcessorError::Extract(_) => stopped(stop::EXTRACT, 0),
+        ProcessorError::InvalidRegister { reg, .. } => {
+            stopped(stop::INVALID_REGISTER, encoding::reg_number(*reg) as u64)
+        }
     }
 }
 
 /// The exception of a code. The original makes a memory error only from a refused access.
 fn exception(code: u64, memory: &Memory) -> Option<Exception> {
     Some(match code {
-        0 => Exception::HardwareInterrupt,
-        1 => Exception::DivByZero,
-        2 => Exception::InvalidInstruction,
-        3 => Exception::PrivilegedInstruction,
-        4 => Exception::Trap,
-        5 => memory.get(MEMORY_SIZE).err()?.into(),
+        HARDWARE_INTERRUPT => Exception::HardwareInterrupt,
+        DIV_BY_ZERO => Exception::DivByZero,
+        INVALID_INSTRUCTION => Exception::InvalidInstruction,
+        PRIVILEGED_INSTRUCTION => Exception::PrivilegedInstruction,
+        TRAP => Exception::Trap,
+        INVALID_MEMORY_ACCESS => memory.get(MEMORY_SIZE).err()?.into(),
         _ => return None,
     })
 }
@@ -450,8 +460,4 @@ fn exception(code: u64, memory: &Memory) -> Option<Exception> {
 fn put_cell(memory: &mut Memory, address: usize, cell: Flat) {
     let place = memory.get_mut(address as u32).expect("below the size");
     *place = decode(cell).expect(DAMAGED);
-}
-
-fn flat_at(cells: &[i64], address: usize) -> Flat {
-    [cells[3 * address], cells[3 * address + 1], cells[3 * address + 2]]
 }

@@ -3,6 +3,7 @@
 use compare::driver::Driver;
 use compare::programs;
 use compare::rng::Rng;
+use layout::stop::BUDGET_SPENT;
 use list::{Answer, Call, Case, Lent, Machine, Plain};
 use z33::Library;
 
@@ -25,7 +26,7 @@ pub fn check(seed: u64) -> Result<String, String> {
         case.calls = vec![Call::Run(budget(&mut rng, &answer)), Call::Run(0)];
         steps += same(&mut driver, &case)?;
         programs += 1;
-        ended += usize::from(answer.stop > 0);
+        ended += usize::from(answer.stop != BUDGET_SPENT);
     }
     if programs < PROGRAMS || ended == 0 {
         return Err(format!("only {programs} long programs, {ended} that end, in {MOST_DRAWS} draws"));
@@ -43,7 +44,7 @@ fn long_on_plain(case: &Case) -> Option<Answer> {
 
 /// A run that ends by itself is given the largest budget there is.
 fn budget(rng: &mut Rng, answer: &Answer) -> u32 {
-    if answer.stop > 0 { u32::MAX } else { rng.between(LONG as i64, MOST.into()) as u32 }
+    if answer.stop != BUDGET_SPENT { u32::MAX } else { rng.between(LONG as i64, MOST.into()) as u32 }
 }
 
 /// The count of steps that both took.

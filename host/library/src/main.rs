@@ -1,6 +1,7 @@
 //! `library check LIST [SEED]`: the library in every mode of the judge, with complete coverage, then the recorded list
 //! and the model of the calls.
 //! `library long STEPS [SEED]`: about so many steps more against the judge.
+//! `library exercise SEED [LOADS]`: exercise loads, the first of this seed.
 
 use std::process::ExitCode;
 
@@ -14,7 +15,9 @@ fn main() -> ExitCode {
         ["check", list, seed] => check(list, seed),
         ["long", steps] => long(steps, "1000"),
         ["long", steps, seed] => long(steps, seed),
-        _ => Err("library check LIST [SEED] | long STEPS [SEED]".into()),
+        ["exercise", seed] => loads(seed, "1"),
+        ["exercise", seed, count] => loads(seed, count),
+        _ => Err("library check LIST [SEED] | long STEPS [SEED] | exercise SEED [LOADS]".into()),
     })
 }
 
@@ -28,4 +31,8 @@ fn check(list: &str, seed: &str) -> Result<Vec<String>, String> {
 
 fn long(steps: &str, seed: &str) -> Result<Vec<String>, String> {
     library::compared(&Size::of(number(steps)? as usize), number(seed)?)
+}
+
+fn loads(seed: &str, count: &str) -> Result<Vec<String>, String> {
+    Ok(vec![library::loads(number(count)? as usize, number(seed)?)?])
 }

@@ -1,11 +1,13 @@
 //! A case: a machine, and calls made on it in turn.
 
-use crate::lent::{CELLS, Lent, Machine, Row};
+use layout::{Cell, Row, refusal, stop};
+
+use crate::lent::{CELLS, Lent, Machine};
 
 #[derive(Clone, Debug, Default)]
 pub struct Case {
     /// The cells that are not empty before, each address once.
-    pub cells: Vec<(usize, [i64; 3])>,
+    pub cells: Vec<(usize, Cell)>,
     pub queue: Vec<u8>,
     pub output: Vec<u8>,
     pub row: Row,
@@ -33,7 +35,7 @@ pub struct Answer {
 }
 
 impl Answer {
-    pub const DONE: Self = Self { refusal: 0, stop: 0, detail: 0, count: 0 };
+    pub const DONE: Self = Self { refusal: refusal::NONE, stop: stop::BUDGET_SPENT, detail: 0, count: 0 };
 
     pub fn refused(refusal: u64) -> Self {
         Self { refusal, ..Self::DONE }
@@ -63,7 +65,7 @@ impl Case {
     }
 
     /// Sets a cell, over an earlier one.
-    pub fn put(&mut self, address: usize, cell: [i64; 3]) {
+    pub fn put(&mut self, address: usize, cell: Cell) {
         self.cells.retain(|(at, _)| *at != address);
         self.cells.push((address, cell));
     }

@@ -1,11 +1,11 @@
 //! The four lent buffers and the calls over them, in the shape of the C interface.
 
+use layout::{Cell, ROW, Row, cell, limit, refusal};
+
 use crate::case::Answer;
 
 /// The original's MEMORY_SIZE; every recorded machine has this many cells.
-pub const CELLS: usize = 10_000;
-
-pub type Row = [i64; 16];
+pub const CELLS: usize = limit::CELLS_MOST;
 
 #[derive(Clone, PartialEq, Eq)]
 pub struct Lent {
@@ -18,15 +18,20 @@ pub struct Lent {
 impl Lent {
     /// Empty cells, zero bytes and a row of zeros.
     pub fn zero(cells: usize, queue: usize, output: usize) -> Self {
-        Self { cells: vec![0; 3 * cells], queue: vec![0; queue], output: vec![0; output], row: [0; 16] }
+        Self {
+            cells: vec![0; cell::LENGTH * cells],
+            queue: vec![0; queue],
+            output: vec![0; output],
+            row: [0; ROW],
+        }
     }
 
-    pub fn cell(&self, address: usize) -> [i64; 3] {
-        [self.cells[3 * address], self.cells[3 * address + 1], self.cells[3 * address + 2]]
+    pub fn cell(&self, address: usize) -> Cell {
+        cell::get(&self.cells, address)
     }
 
-    pub fn put_cell(&mut self, address: usize, cell: [i64; 3]) {
-        self.cells[3 * address..3 * address + 3].copy_from_slice(&cell);
+    pub fn put_cell(&mut self, address: usize, cell: Cell) {
+        cell::put(&mut self.cells, address, cell);
     }
 }
 
@@ -61,12 +66,12 @@ impl Machine for Plain {
     fn raise(&mut self, lent: &mut Lent, code: u64) -> Answer {
         match plain::raise(&mut lent.cells, &mut lent.row, code) {
             Some(raised) => Answer { stop: raised.stop, detail: raised.detail, ..Answer::DONE },
-            None => Answer::refused(11),
+            None => Answer::refused(refusal::CODE),
         }
     }
 
     fn set_register(&mut self, lent: &mut Lent, reg: u64, word: i64) -> Answer {
         let taken = plain::set_register(&mut lent.row, reg, word);
-        Answer::refused(if taken { 0 } else { 10 })
+        Answer::refused(if taken { refusal::NONE } else { refusal::REGISTER })
     }
 }

@@ -8,6 +8,6 @@ mod reader;
 mod writer;
 
 pub use case::{Answer, Call, Case, Recorded};
-pub use lent::{CELLS, Lent, Machine, Plain, Row};
+pub use lent::{CELLS, Lent, Machine, Plain};
 pub use reader::replay;
 pub use writer::{Writer, case_lines};

@@ -1,5 +1,7 @@
 //! Replays the recorded list on a machine.
 
+use layout::Cell;
+
 use crate::case::{Answer, Call};
 use crate::lent::{CELLS, Lent, Machine};
 
@@ -137,7 +139,7 @@ impl<'m> Replay<'m> {
 }
 
 /// A cell, a number of the row, or a byte of queue or output, by the kinds 2 to 5.
-fn set(lent: &mut Lent, kind: i64, place: i64, cell: [i64; 3]) -> Result<(), String> {
+fn set(lent: &mut Lent, kind: i64, place: i64, cell: Cell) -> Result<(), String> {
     match kind {
         2 if number(place)? < CELLS => lent.put_cell(number(place)?, cell),
         2 => return Err("no such cell".into()),

@@ -2,6 +2,9 @@
 
 use std::fmt::Write;
 
+use layout::cell::TAG_EMPTY;
+use layout::{ROW, row};
+
 use crate::case::{Answer, Call, Case, Recorded};
 use crate::lent::{CELLS, Lent};
 
@@ -74,11 +77,11 @@ pub fn case_lines(number: usize, case: &Case) -> String {
     let mut cells = case.cells.clone();
     cells.sort_unstable();
     for (address, [tag, first, second]) in cells {
-        if tag != 0 {
+        if tag != TAG_EMPTY {
             line(&mut text, [2, address as i64, tag, first, second]);
         }
     }
-    row(&mut text, 3, &[0; 16], &case.row);
+    row(&mut text, 3, &[0; ROW], &case.row);
     bytes(&mut text, 4, &vec![0; queue], &case.queue);
     bytes(&mut text, 5, &vec![0; output], &case.output);
     text
@@ -99,7 +102,7 @@ fn changes(text: &mut String, before: &Lent, after: &Lent) {
 fn row(text: &mut String, kind: i64, before: &[i64], after: &[i64]) {
     for (i, (old, new)) in before.iter().zip(after).enumerate() {
         if old != new {
-            line(text, [kind, i as i64 + 1, *new, 0, 0]);
+            line(text, [kind, row::from_1(i) as i64, *new, 0, 0]);
         }
     }
 }

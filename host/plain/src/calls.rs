@@ -1,6 +1,9 @@
 //! The calls over lent numbers, for arguments that they accept.
 
-use crate::cell::{address_in, word};
+use layout::cell::{self, word};
+use layout::{Row, at, code, memory, refusal, reg, row, stop};
+
+use crate::cell::address_in;
 use crate::console::Console;
 use crate::machine::{MOST_CYCLES, Machine, State, enter};
 
@@ -16,10 +19,10 @@ pub struct Raised {
     pub detail: u64,
 }
 
-pub fn run(cells: &mut [i64], queue: &mut [u8], output: &mut [u8], row: &mut [i64; 16], budget: u32) -> Ran {
+pub fn run(cells: &mut [i64], queue: &mut [u8], output: &mut [u8], row: &mut Row, budget: u32) -> Ran {
     let console = console_of(queue, output, row);
     let mut machine = Machine { cells, console, state: state_of(row) };
-    let mut ran = Ran { stop: 0, detail: 0, steps: 0 };
+    let mut ran = Ran { stop: stop::BUDGET_SPENT, detail: 0, steps: 0 };
     while ran.steps < u64::from(budget) {
         if let Err((stop, detail)) = machine.step() {
             (ran.stop, ran.detail) = (stop, detail);
@@ -33,97 +36,98 @@ pub fn run(cells: &mut [i64], queue: &mut [u8], output: &mut [u8], row: &mut [i6
 }
 
 /// The refusal's number, 0 where the bytes were delivered.
-pub fn deliver(queue: &mut [u8], row: &mut [i64; 16], bytes: &[u8]) -> u64 {
+pub fn deliver(queue: &mut [u8], row: &mut Row, bytes: &[u8]) -> u64 {
     let mut console = console_of(queue, &mut [], row);
     if bytes.len() > console.queue.len() - console.count {
-        return 6;
+        return refusal::DELIVERY;
     }
     console.deliver(bytes);
     put_console(row, &console);
-    0
+    refusal::NONE
 }
 
 /// The refusal's number and the count of bytes copied to the front of the buffer.
-pub fn drain(output: &[u8], row: &mut [i64; 16], buffer: &mut [u8]) -> (u64, u64) {
-    let count = row[15] as usize;
+pub fn drain(output: &[u8], row: &mut Row, buffer: &mut [u8]) -> (u64, u64) {
+    let count = row[at::OUTPUT_COUNT] as usize;
     if buffer.len() < count {
-        return (7, 0);
+        return (refusal::DRAIN, 0);
     }
     buffer[..count].copy_from_slice(&output[..count]);
-    row[15] = 0;
-    (0, count as u64)
+    row[at::OUTPUT_COUNT] = 0;
+    (refusal::NONE, count as u64)
 }
 
 /// False where it is refused.
-pub fn set_register(row: &mut [i64; 16], reg: u64, value: i64) -> bool {
-    match reg {
-        0 => row[..3].copy_from_slice(&word(value)),
-        1 => row[3..6].copy_from_slice(&word(value)),
-        2 | 3 if address_in(value).is_some() => row[4 + reg as usize] = value,
+pub fn set_register(row: &mut Row, reg: u64, value: i64) -> bool {
+    match reg as i64 {
+        reg::A => row::put_cell(row, at::A, word(value)),
+        reg::B => row::put_cell(row, at::B, word(value)),
+        reg::PC if address_in(value).is_some() => row[at::PC] = value,
+        reg::SP if address_in(value).is_some() => row[at::SP] = value,
         _ => return false,
     }
     true
 }
 
 /// None where the code is not 0 to 5.
-pub fn raise(cells: &mut [i64], row: &mut [i64; 16], code: u64) -> Option<Raised> {
-    if code > 5 {
+pub fn raise(cells: &mut [i64], row: &mut Row, code: u64) -> Option<Raised> {
+    if code >= code::CODES {
         return None;
     }
     let mut state = state_of(row);
-    let before = [100, 101, 102].map(|address| cells[3 * address..3 * address + 3].to_vec());
+    let before = memory::SAVES.map(|address| cell::get(cells, address as usize));
     if !enter(cells, &mut state, code) {
-        return Some(Raised { stop: 2, detail: code });
+        return Some(Raised { stop: stop::NO_HANDLER, detail: code });
     }
     if state.cycles == MOST_CYCLES {
-        for (i, cell) in before.iter().enumerate() {
-            cells[300 + 3 * i..303 + 3 * i].copy_from_slice(cell);
+        for (address, saved) in memory::SAVES.into_iter().zip(before) {
+            cell::put(cells, address as usize, saved);
         }
-        return Some(Raised { stop: 7, detail: 0 });
+        return Some(Raised { stop: stop::CYCLES_FULL, detail: 0 });
     }
     state.cycles += 1;
     put_state(row, &state);
-    Some(Raised { stop: 0, detail: 0 })
+    Some(Raised { stop: stop::ENTERED, detail: 0 })
 }
 
-fn state_of(row: &[i64; 16]) -> State {
+fn state_of(row: &Row) -> State {
     State {
-        a: [row[0], row[1], row[2]],
-        b: [row[3], row[4], row[5]],
-        pc: row[6] as u32,
-        sp: row[7] as u32,
-        sr: row[8],
-        cycles: row[9] as u64,
+        a: row::cell(row, at::A),
+        b: row::cell(row, at::B),
+        pc: row[at::PC] as u32,
+        sp: row[at::SP] as u32,
+        sr: row[at::SR],
+        cycles: row[at::CYCLES] as u64,
     }
 }
 
-fn put_state(row: &mut [i64; 16], state: &State) {
-    row[..3].copy_from_slice(&state.a);
-    row[3..6].copy_from_slice(&state.b);
-    row[6] = state.pc.into();
-    row[7] = state.sp.into();
-    row[8] = state.sr;
-    row[9] = state.cycles as i64;
+fn put_state(row: &mut Row, state: &State) {
+    row::put_cell(row, at::A, state.a);
+    row::put_cell(row, at::B, state.b);
+    row[at::PC] = state.pc.into();
+    row[at::SP] = state.sp.into();
+    row[at::SR] = state.sr;
+    row[at::CYCLES] = state.cycles as i64;
 }
 
-fn console_of<'a>(queue: &'a mut [u8], output: &'a mut [u8], row: &[i64; 16]) -> Console<'a> {
+fn console_of<'a>(queue: &'a mut [u8], output: &'a mut [u8], row: &Row) -> Console<'a> {
     Console {
-        enable: row[10] == 1,
-        flag: row[11] == 1,
-        pending: row[12] == 1,
+        enable: row[at::ENABLE] == 1,
+        flag: row[at::FLAG] == 1,
+        pending: row[at::PENDING] == 1,
         queue,
-        start: row[13] as usize,
-        count: row[14] as usize,
+        start: row[at::QUEUE_START] as usize,
+        count: row[at::QUEUE_COUNT] as usize,
         output,
-        written: row[15] as usize,
+        written: row[at::OUTPUT_COUNT] as usize,
     }
 }
 
-fn put_console(row: &mut [i64; 16], console: &Console) {
-    row[10] = console.enable.into();
-    row[11] = console.flag.into();
-    row[12] = console.pending.into();
-    row[13] = console.start as i64;
-    row[14] = console.count as i64;
-    row[15] = console.written as i64;
+fn put_console(row: &mut Row, console: &Console) {
+    row[at::ENABLE] = console.enable.into();
+    row[at::FLAG] = console.flag.into();
+    row[at::PENDING] = console.pending.into();
+    row[at::QUEUE_START] = console.start as i64;
+    row[at::QUEUE_COUNT] = console.count as i64;
+    row[at::OUTPUT_COUNT] = console.written as i64;
 }

@@ -1,21 +1,20 @@
-//! Cells of three numbers: tag, first, second.
+//! Which cells there are: operands by operation, cost, and what is not damaged.
 
-pub type Cell = [i64; 3];
-
-pub const EMPTY: Cell = [0, 0, 0];
-
-/// An address is a word 0 to this.
-pub const LAST_ADDRESS: i64 = 4_294_967_295;
+use layout::cell::{EMPTY, TAG_EMPTY, TAG_LEAST_INSTRUCTION, TAG_WORD};
+use layout::form::{Form, split};
+use layout::limit::ADDRESS_LAST;
+use layout::op::OPERATIONS;
+use layout::{Cell, mode};
 
 /// Operand kinds by operation: for each of the two operands the modes it takes, as bits 1 << mode.
-const NONE: u8 = 1;
-const REG: u8 = 1 << 2;
-const IMM_REG: u8 = 1 << 1 | REG;
-const MEMORY: u8 = 1 << 3 | 1 << 4 | 1 << 5;
+const NONE: u8 = 1 << mode::NO;
+const REG: u8 = 1 << mode::REG;
+const IMM_REG: u8 = 1 << mode::IMM | REG;
+const MEMORY: u8 = 1 << mode::DIR | 1 << mode::IND | 1 << mode::IDX;
 const ANY: u8 = IMM_REG | MEMORY;
 
 /// In the order of `Instruction`.
-const KINDS: [(u8, u8); 33] = [
+const KINDS: [(u8, u8); OPERATIONS as usize] = [
     (ANY, REG),          // add
     (ANY, REG),          // and
     (ANY, NONE),         // call
@@ -51,19 +50,6 @@ const KINDS: [(u8, u8); 33] = [
     (ANY, REG),          // xor
 ];
 
-pub fn word(w: i64) -> Cell {
-    [1, w, 0]
-}
-
-/// Empty reads as word 0; an instruction is no word.
-pub fn word_in(cell: Cell) -> Option<i64> {
-    (cell[0] < 2).then_some(cell[1])
-}
-
-pub fn is_instruction(cell: Cell) -> bool {
-    cell[0] >= 2
-}
-
 pub fn address_in(word: i64) -> Option<u32> {
     u32::try_from(word).ok()
 }
@@ -82,13 +68,12 @@ pub struct Operand {
     pub number: i64,
 }
 
-/// Tag is 2 + ((op × 36 + m1 × 6 + m2) × 25 + r1 × 5 + r2).
 pub fn decode([tag, first, second]: Cell) -> Decoded {
-    let (form, regs) = ((tag - 2) / 25, (tag - 2) % 25);
+    let (Form { op, m1, m2 }, (r1, r2)) = split(tag);
     Decoded {
-        op: form / 36,
-        x: Operand { mode: form / 6 % 6, reg: regs / 5, number: first },
-        y: Operand { mode: form % 6, reg: regs % 5, number: second },
+        op,
+        x: Operand { mode: m1, reg: r1, number: first },
+        y: Operand { mode: m2, reg: r2, number: second },
     }
 }
 
@@ -98,15 +83,15 @@ pub fn cost(op: i64, m1: i64, m2: i64) -> u64 {
         .ok()
         .and_then(|op| KINDS.get(op))
         .is_some_and(|(x, y)| x >> m1 & 1 == 1 && y >> m2 & 1 == 1);
-    if legal { 1 + u64::from(m1 >= 3) + u64::from(m2 >= 3) } else { 0 }
+    if legal { 1 + u64::from(m1 >= mode::DIR) + u64::from(m2 >= mode::DIR) } else { 0 }
 }
 
 /// What is not damaged.
 pub fn sound(cell: Cell) -> bool {
     match cell[0] {
-        0 => cell == EMPTY,
-        1 => cell[2] == 0,
-        2.. => {
+        TAG_EMPTY => cell == EMPTY,
+        TAG_WORD => cell[2] == 0,
+        TAG_LEAST_INSTRUCTION.. => {
             let Decoded { op, x, y } = decode(cell);
             cost(op, x.mode, y.mode) > 0 && fits(x) && fits(y)
         }
@@ -116,10 +101,10 @@ pub fn sound(cell: Cell) -> bool {
 
 /// Register and number are 0 where the mode has none, and a direct number is an address.
 fn fits(operand: Operand) -> bool {
-    let has_reg = matches!(operand.mode, 2 | 4 | 5);
+    let has_reg = matches!(operand.mode, mode::REG | mode::IND | mode::IDX);
     let number_fits = match operand.mode {
-        1 | 5 => true,
-        3 => (0..=LAST_ADDRESS).contains(&operand.number),
+        mode::IMM | mode::IDX => true,
+        mode::DIR => (0..=ADDRESS_LAST).contains(&operand.number),
         _ => operand.number == 0,
     };
     (has_reg || operand.reg == 0) && number_fits

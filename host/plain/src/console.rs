@@ -1,7 +1,8 @@
 //! The serial console on ports 110 and 111, over lent bytes.
 
-pub const STATUS: u32 = 110;
-pub const DATA: u32 = 111;
+use layout::memory::{
+    SERIAL_DATA_PORT, SERIAL_STATUS_PORT, STATUS_INPUT_READY, STATUS_INTERRUPT, STATUS_OUTPUT_READY,
+};
 
 pub struct Console<'a> {
     pub enable: bool,
@@ -17,14 +18,16 @@ pub struct Console<'a> {
 impl Console<'_> {
     pub fn read(&mut self, port: u32) -> i64 {
         match port {
-            STATUS => self.status(),
-            DATA => self.data(),
+            SERIAL_STATUS_PORT => self.status(),
+            SERIAL_DATA_PORT => self.data(),
             _ => 0,
         }
     }
 
     fn status(&mut self) -> i64 {
-        let status = 2 + i64::from(self.count > 0) + 4 * i64::from(self.flag);
+        let status = STATUS_OUTPUT_READY
+            + STATUS_INPUT_READY * i64::from(self.count > 0)
+            + STATUS_INTERRUPT * i64::from(self.flag);
         self.flag = false;
         status
     }
@@ -41,13 +44,13 @@ impl Console<'_> {
 
     /// Whether a write would go past the output record.
     pub fn is_full(&self, port: u32) -> bool {
-        port == DATA && self.written == self.output.len()
+        port == SERIAL_DATA_PORT && self.written == self.output.len()
     }
 
     pub fn write(&mut self, port: u32, word: i64) {
         match port {
-            STATUS => self.control(word),
-            DATA => {
+            SERIAL_STATUS_PORT => self.control(word),
+            SERIAL_DATA_PORT => {
                 self.output[self.written] = word.to_le_bytes()[0];
                 self.written += 1;
             }

@@ -1,46 +1,55 @@
 //! The 33 instructions.
 
-use crate::cell::{Decoded, Operand, address_in, word, word_in};
-use crate::machine::{Fault, Machine, NEGATIVE, OVERFLOW, ZERO};
+use layout::Cell;
+use layout::cell::{word, word_in};
+use layout::code::{DIV_BY_ZERO, INVALID_INSTRUCTION, INVALID_MEMORY_ACCESS, TRAP};
+use layout::limit::SHIFT_MOST;
+use layout::memory::{INTERRUPT_PC_SAVE, INTERRUPT_SR_SAVE};
+use layout::mode::REG;
+use layout::op;
+use layout::sr::{NEGATIVE, OVERFLOW, ZERO};
+
+use crate::cell::{Decoded, Operand, address_in};
+use crate::machine::{Fault, Machine};
 
 type Done = Result<(), Fault>;
 
 impl Machine<'_> {
     pub fn execute(&mut self, decoded: &Decoded) -> Done {
-        let Decoded { op, x, y } = *decoded;
-        match op {
-            0 => self.wrapping(x, y, |operand, register| register.overflowing_add(operand)),
-            1 => self.logic(x, y, |operand, register| register & operand),
-            2 => self.call(x),
-            3 => self.cmp(x, y),
-            4 => self.div(x, y),
-            5 => self.fas(x, y),
-            6 => self.input(x, y),
-            7..=13 => self.jump(op, x),
-            14 => self.set(y.reg, self.cell_of(x)?),
-            15 => self.wrapping(x, y, |operand, register| register.overflowing_mul(operand)),
-            16 => self.neg(x),
-            17 => Ok(()),
-            18 => {
+        let Decoded { op: operation, x, y } = *decoded;
+        match operation {
+            op::ADD => self.wrapping(x, y, |operand, register| register.overflowing_add(operand)),
+            op::AND => self.logic(x, y, |operand, register| register & operand),
+            op::CALL => self.call(x),
+            op::CMP => self.cmp(x, y),
+            op::DIV => self.div(x, y),
+            op::FAS => self.fas(x, y),
+            op::IN => self.input(x, y),
+            op::JMP..=op::JGT => self.jump(operation, x),
+            op::LD => self.set(y.reg, self.cell_of(x)?),
+            op::MUL => self.wrapping(x, y, |operand, register| register.overflowing_mul(operand)),
+            op::NEG => self.neg(x),
+            op::NOP => Ok(()),
+            op::NOT => {
                 let result = !self.word_of(x)?;
                 self.put_result(x, result)
             }
-            19 => self.logic(x, y, |operand, register| register | operand),
-            20 => self.output(x, y),
-            21 => self.pop(x),
-            22 => self.push(x),
-            23 => {
+            op::OR => self.logic(x, y, |operand, register| register | operand),
+            op::OUT => self.output(x, y),
+            op::POP => self.pop(x),
+            op::PUSH => self.push(x),
+            op::RESET => {
                 self.state.pc -= 1;
                 Err(Fault::Reset)
             }
-            24 => self.rti(),
-            25 => self.rtn(),
-            26 => self.shift(x, y, |register, amount| register << amount),
-            27 => self.shift(x, y, |register, amount| register >> amount),
-            28 => self.st(x, y),
-            29 => self.wrapping(x, y, |operand, register| register.overflowing_sub(operand)),
-            30 => self.swap(x, y),
-            31 => Err(Fault::Code(4)),
+            op::RTI => self.rti(),
+            op::RTN => self.rtn(),
+            op::SHL => self.shift(x, y, |register, amount| register << amount),
+            op::SHR => self.shift(x, y, |register, amount| register >> amount),
+            op::ST => self.st(x, y),
+            op::SUB => self.wrapping(x, y, |operand, register| register.overflowing_sub(operand)),
+            op::SWAP => self.swap(x, y),
+            op::TRAP => Err(Fault::Code(TRAP)),
             _ => self.logic(x, y, |operand, register| register ^ operand),
         }
     }
@@ -89,15 +98,15 @@ impl Machine<'_> {
     fn div(&mut self, x: Operand, y: Operand) -> Done {
         let (operand, register) = self.words(x, y)?;
         if operand == 0 || (register == i64::MIN && operand == -1) {
-            return Err(Fault::Code(1));
+            return Err(Fault::Code(DIV_BY_ZERO));
         }
         self.put_result(y, register / operand)
     }
 
     fn shift(&mut self, x: Operand, y: Operand, f: fn(i64, i64) -> i64) -> Done {
         let (amount, register) = self.words(x, y)?;
-        if !(0..=63).contains(&amount) {
-            return Err(Fault::Code(2));
+        if !(0..=SHIFT_MOST).contains(&amount) {
+            return Err(Fault::Code(INVALID_INSTRUCTION));
         }
         self.put_result(y, f(register, amount))
     }
@@ -105,7 +114,7 @@ impl Machine<'_> {
     /// Word 1 is written before the register is set.
     fn fas(&mut self, x: Operand, y: Operand) -> Done {
         let address = self.address(x).ok_or(Fault::CellError)?;
-        let cell = self.read(address).ok_or(Fault::Code(5))?;
+        let cell = self.read(address).ok_or(Fault::Code(INVALID_MEMORY_ACCESS))?;
         self.write(address, word(1))?;
         self.set(y.reg, cell)
     }
@@ -121,7 +130,7 @@ impl Machine<'_> {
     fn swap(&mut self, x: Operand, y: Operand) -> Done {
         let (first, second) = (self.cell_of(x)?, self.get(y.reg));
         self.set(y.reg, first)?;
-        if x.mode == 2 {
+        if x.mode == REG {
             return self.set(x.reg, second);
         }
         let address = self.address(x).ok_or(Fault::CellError)?;
@@ -133,15 +142,15 @@ impl Machine<'_> {
     }
 
     /// A jump not taken never reads its operand.
-    fn jump(&mut self, op: i64, x: Operand) -> Done {
+    fn jump(&mut self, operation: i64, x: Operand) -> Done {
         let (zero, negative) = (self.has(ZERO), self.has(NEGATIVE));
-        let taken = match op {
-            7 => true,
-            8 => zero,
-            9 => !zero,
-            10 => zero || negative,
-            11 => negative && !zero,
-            12 => zero || !negative,
+        let taken = match operation {
+            op::JMP => true,
+            op::JEQ => zero,
+            op::JNE => !zero,
+            op::JLE => zero || negative,
+            op::JLT => negative && !zero,
+            op::JGE => zero || !negative,
             _ => !zero && !negative,
         };
         if taken {
@@ -162,14 +171,14 @@ impl Machine<'_> {
     }
 
     /// sp stays moved where the store is outside.
-    fn push_cell(&mut self, cell: [i64; 3]) -> Done {
+    fn push_cell(&mut self, cell: Cell) -> Done {
         self.state.sp = self.state.sp.wrapping_sub(1);
         self.write(self.state.sp, cell)
     }
 
     /// Read at sp, then move sp.
-    fn pop_cell(&mut self) -> Result<[i64; 3], Fault> {
-        let cell = self.read(self.state.sp).ok_or(Fault::Code(5))?;
+    fn pop_cell(&mut self) -> Result<Cell, Fault> {
+        let cell = self.read(self.state.sp).ok_or(Fault::Code(INVALID_MEMORY_ACCESS))?;
         self.state.sp += 1;
         Ok(cell)
     }
@@ -188,9 +197,9 @@ impl Machine<'_> {
     /// pc is set before cell 101 is read.
     fn rti(&mut self) -> Done {
         self.privileged()?;
-        let pc = self.read(100).and_then(word_in).and_then(address_in);
+        let pc = self.read(INTERRUPT_PC_SAVE).and_then(word_in).and_then(address_in);
         self.state.pc = pc.ok_or(Fault::CellError)?;
-        self.state.sr = self.read(101).and_then(word_in).ok_or(Fault::CellError)?;
+        self.state.sr = self.read(INTERRUPT_SR_SAVE).and_then(word_in).ok_or(Fault::CellError)?;
         Ok(())
     }
 

@@ -9,4 +9,4 @@ mod instructions;
 mod machine;
 
 pub use calls::{Raised, Ran, deliver, drain, raise, run, set_register};
-pub use cell::{Cell, EMPTY, cost, sound, word};
+pub use cell::{cost, sound};

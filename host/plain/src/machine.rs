@@ -1,19 +1,19 @@
 //! Registers, operands, exception entry and the step.
 
-use crate::cell::{Cell, Operand, address_in, cost, decode, is_instruction, word, word_in};
+use layout::Cell;
+use layout::cell::{self, is_instruction, word, word_in};
+use layout::code::{HARDWARE_INTERRUPT, INVALID_INSTRUCTION, INVALID_MEMORY_ACCESS, PRIVILEGED_INSTRUCTION};
+use layout::limit::CYCLES_MOST;
+use layout::memory::{INTERRUPT_EXCEPTION, INTERRUPT_HANDLER, INTERRUPT_PC_SAVE, INTERRUPT_SR_SAVE};
+use layout::sr::{INTERRUPT_ENABLE, SUPERVISOR};
+use layout::{mode, reg, stop};
+
+use crate::cell::{Operand, address_in, cost, decode};
 use crate::console::Console;
 
-pub const ZERO: i64 = 2;
-pub const NEGATIVE: i64 = 4;
-pub const OVERFLOW: i64 = 8;
-pub const INTERRUPT_ENABLE: i64 = 256;
-pub const SUPERVISOR: i64 = 512;
-
-pub const MOST_CYCLES: u64 = i64::MAX as u64;
+pub const MOST_CYCLES: u64 = CYCLES_MOST as u64;
 /// A step adds at most this: an instruction's cost of 2 and one for an entry.
 const MOST_ADDED: u64 = 3;
-
-const HANDLER: u32 = 200;
 
 pub type Stop = (u64, u64);
 
@@ -67,7 +67,7 @@ impl Machine<'_> {
         let console = &mut self.console;
         (console.enable, console.flag, console.pending) = (enable, flag, pending);
         (console.start, console.count, console.written) = (start, count, written);
-        Err((7, 0))
+        Err((stop::CYCLES_FULL, 0))
     }
 
     fn step_with_room(&mut self) -> Result<(), Stop> {
@@ -78,23 +78,23 @@ impl Machine<'_> {
                 self.poll()
             }
             Err(Fault::Code(code)) => self.enter(code),
-            Err(Fault::Reset) => Err((1, 0)),
-            Err(Fault::CellError) => Err((3, 0)),
-            Err(Fault::Extract) => Err((4, 0)),
-            Err(Fault::Register(reg)) => Err((5, reg as u64)),
+            Err(Fault::Reset) => Err((stop::RESET, 0)),
+            Err(Fault::CellError) => Err((stop::CELL_ERROR, 0)),
+            Err(Fault::Extract) => Err((stop::EXTRACT, 0)),
+            Err(Fault::Register(reg)) => Err((stop::INVALID_REGISTER, reg as u64)),
             Err(Fault::OutputFull) => {
                 self.state.pc = pc;
-                Err((6, 0))
+                Err((stop::OUTPUT_FULL, 0))
             }
         }
     }
 
     /// Fetch and execute; the instruction's cost.
     fn attempt(&mut self) -> Result<u64, Fault> {
-        let cell = self.read(self.state.pc).ok_or(Fault::Code(5))?;
+        let cell = self.read(self.state.pc).ok_or(Fault::Code(INVALID_MEMORY_ACCESS))?;
         self.state.pc += 1;
         if !is_instruction(cell) {
-            return Err(Fault::Code(2));
+            return Err(Fault::Code(INVALID_INSTRUCTION));
         }
         let decoded = decode(cell);
         self.execute(&decoded)?;
@@ -105,14 +105,14 @@ impl Machine<'_> {
     fn poll(&mut self) -> Result<(), Stop> {
         if self.has(INTERRUPT_ENABLE) && self.console.pending {
             self.console.pending = false;
-            return self.enter(0);
+            return self.enter(HARDWARE_INTERRUPT);
         }
         Ok(())
     }
 
     pub fn enter(&mut self, code: u64) -> Result<(), Stop> {
         if !enter(self.cells, &mut self.state, code) {
-            return Err((2, code));
+            return Err((stop::NO_HANDLER, code));
         }
         self.state.cycles += 1;
         Ok(())
@@ -132,15 +132,15 @@ impl Machine<'_> {
 
     /// A store outside the cells is code 5.
     pub fn write(&mut self, address: u32, cell: Cell) -> Result<(), Fault> {
-        if write(self.cells, address, cell) { Ok(()) } else { Err(Fault::Code(5)) }
+        if write(self.cells, address, cell) { Ok(()) } else { Err(Fault::Code(INVALID_MEMORY_ACCESS)) }
     }
 
     pub fn get(&self, reg: i64) -> Cell {
         match reg {
-            0 => self.state.a,
-            1 => self.state.b,
-            2 => word(self.state.pc.into()),
-            3 => word(self.state.sp.into()),
+            reg::A => self.state.a,
+            reg::B => self.state.b,
+            reg::PC => word(self.state.pc.into()),
+            reg::SP => word(self.state.sp.into()),
             _ => word(self.state.sr),
         }
     }
@@ -149,10 +149,10 @@ impl Machine<'_> {
     pub fn set(&mut self, reg: i64, cell: Cell) -> Result<(), Fault> {
         let address = || word_in(cell).and_then(address_in).ok_or(Fault::Register(reg));
         match reg {
-            0 => self.state.a = cell,
-            1 => self.state.b = cell,
-            2 => self.state.pc = address()?,
-            3 => self.state.sp = address()?,
+            reg::A => self.state.a = cell,
+            reg::B => self.state.b = cell,
+            reg::PC => self.state.pc = address()?,
+            reg::SP => self.state.sp = address()?,
             _ => {
                 self.privileged()?;
                 self.state.sr = word_in(cell).ok_or(Fault::Register(reg))?;
@@ -162,15 +162,15 @@ impl Machine<'_> {
     }
 
     pub fn privileged(&self) -> Result<(), Fault> {
-        if self.has(SUPERVISOR) { Ok(()) } else { Err(Fault::Code(3)) }
+        if self.has(SUPERVISOR) { Ok(()) } else { Err(Fault::Code(PRIVILEGED_INSTRUCTION)) }
     }
 
     /// The address that a memory operand names; none where its word is missing or no address.
     pub fn address(&self, operand: Operand) -> Option<u32> {
         let base = || word_in(self.get(operand.reg));
         match operand.mode {
-            3 => address_in(operand.number),
-            4 => address_in(base()?),
+            mode::DIR => address_in(operand.number),
+            mode::IND => address_in(base()?),
             _ => address_in(base()?.wrapping_add(operand.number)),
         }
     }
@@ -178,8 +178,8 @@ impl Machine<'_> {
     /// An operand's cell; what cannot be taken is stop 4.
     pub fn cell_of(&self, operand: Operand) -> Result<Cell, Fault> {
         match operand.mode {
-            1 => Ok(word(operand.number)),
-            2 => Ok(self.get(operand.reg)),
+            mode::IMM => Ok(word(operand.number)),
+            mode::REG => Ok(self.get(operand.reg)),
             _ => {
                 let address = self.address(operand).ok_or(Fault::Extract)?;
                 self.read(address).ok_or(Fault::Extract)
@@ -194,28 +194,28 @@ impl Machine<'_> {
 
 /// Exception entry without its cycle; false where cell 200 is no instruction.
 pub fn enter(cells: &mut [i64], state: &mut State, code: u64) -> bool {
-    if !read(cells, HANDLER).is_some_and(is_instruction) {
+    if !read(cells, INTERRUPT_HANDLER).is_some_and(is_instruction) {
         return false;
     }
-    write(cells, 100, word(state.pc.into()));
-    write(cells, 101, word(state.sr));
-    write(cells, 102, word(code as i64));
+    write(cells, INTERRUPT_PC_SAVE, word(state.pc.into()));
+    write(cells, INTERRUPT_SR_SAVE, word(state.sr));
+    write(cells, INTERRUPT_EXCEPTION, word(code as i64));
     state.sr |= SUPERVISOR;
-    if code == 0 {
+    if code == HARDWARE_INTERRUPT {
         state.sr &= !INTERRUPT_ENABLE;
     }
-    state.pc = HANDLER;
+    state.pc = INTERRUPT_HANDLER;
     true
 }
 
 fn read(cells: &[i64], address: u32) -> Option<Cell> {
-    let at = 3 * address as usize;
+    let at = cell::LENGTH * address as usize;
     Some([*cells.get(at)?, *cells.get(at + 1)?, *cells.get(at + 2)?])
 }
 
 fn write(cells: &mut [i64], address: u32, cell: Cell) -> bool {
-    let at = 3 * address as usize;
-    match cells.get_mut(at..at + 3) {
+    let at = cell::LENGTH * address as usize;
+    match cells.get_mut(at..at + cell::LENGTH) {
         Some(place) => {
             place.copy_from_slice(&cell);
             true

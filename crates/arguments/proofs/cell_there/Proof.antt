@@ -19,11 +19,16 @@ enum-told c = search needs
 
 returns : tie.Need-returns
 unfolding cellThere
-returns c = c .get .ensures ∙ ap (λ (n : Address). cellThere n (c .before .before .before .before .args .cells .now)) (sym (c .before .before .n .given .1))
+returns c =
+    let at-n = c .before .before in
+    let start = at-n .before .before in
+    c .get .ensures ∙ ap (λ (n : Address). cellThere n (start .args .cells .now)) (sym (at-n .n .given .1))
 
 returns-2 : tie.Need-returns-2
 unfolding cellThere
-returns-2 c = ap (λ (n : Address). cellThere n (c .before .before .args .cells .now)) (sym (c .enum-told .given .1))
+returns-2 c =
+    let start = c .before .before in
+    ap (λ (n : Address). cellThere n (start .args .cells .now)) (sym (c .enum-told .given .1))
 
 pub cell-there-spec : {M : Type 1} → statement M
 cell-there-spec = tie.close (tie.spec enum-known-n get-requires enum-told returns returns-2)

@@ -20,11 +20,16 @@ enum-told c = search needs
 
 returns : tie.Need-returns
 unfolding cellThere
-returns c = let a = c .before .before .before .before .args in c .read-over .ensures ∙ ap (λ (n : Address). cellThere n (overlay (a .at) (a .v) (a .cells .now))) (sym (c .before .before .n .given .1))
+returns c =
+    let at-n = c .before .before in
+    let start = at-n .before .before in
+    let a = start .args in c .read-over .ensures ∙ ap (λ (n : Address). cellThere n (overlay (a .at) (a .v) (a .cells .now))) (sym (at-n .n .given .1))
 
 returns-2 : tie.Need-returns-2
 unfolding cellThere
-returns-2 c = let a = c .before .before .args in ap (λ (n : Address). cellThere n (overlay (a .at) (a .v) (a .cells .now))) (sym (c .enum-told .given .1))
+returns-2 c =
+    let start = c .before .before in
+    let a = start .args in ap (λ (n : Address). cellThere n (overlay (a .at) (a .v) (a .cells .now))) (sym (c .enum-told .given .1))
 
 pub there-over-spec : {M : Type 1} → statement M
 there-over-spec = tie.close (tie.spec enum-known-n read-over-requires enum-told returns returns-2)

@@ -18,7 +18,9 @@ enum-told c = search needs
 
 returns : tie.Need-returns
 unfolding wordThere
-returns c = c .extract-word .ensures ∙ ap wordThere (sym (c .before .before .x .given .1))
+returns c =
+    let at-x = c .before .before in
+    c .extract-word .ensures ∙ ap wordThere (sym (at-x .x .given .1))
 
 returns-2 : tie.Need-returns-2
 unfolding wordThere

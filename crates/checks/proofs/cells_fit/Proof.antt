@@ -1,4 +1,3 @@
--- `refusals::cells_fit` meets its contract.
 use mathlib.Core.Path.{refl}
 use Rattle.definition.specs.Calls.{cellsTest}
 use Rattle.checks.proofs.cells_fit.Statement.{statement}

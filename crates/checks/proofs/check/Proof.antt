@@ -1,4 +1,3 @@
--- `refusals::check` meets its contract.
 use borrow.Author.Needs.{needs}
 use Rattle.checks.proofs.check.Statement.{statement}
 use Rattle.checks.proofs.check.Tie as tie

@@ -1,4 +1,3 @@
--- `refusals::console_numbers` meets its contract.
 use native.Mathlib.Omega.{arith}
 use native.Mathlib.Numerals.{add-one}
 use mathlib.Core.Path.{ap, _∙_}
@@ -6,6 +5,7 @@ use mathlib.Core.List.{[]}
 use Prim.Native.Nat.{ℕ}
 use lib.ListN.{drop}
 use borrow.Author.Needs.{needs}
+use Rattle.definition.specs.Constants.{ROW-ENABLE, ROW-FLAG, ROW-PENDING, ROW-START, ROW-COUNT, ROW-WRITTEN}
 use Rattle.definition.specs.Calls.{rowTests, isBelow, at}
 use Rattle.checks.proofs.Verdict.{check-on, accept-by}
 use Rattle.checks.proofs.console_numbers.Statement.{statement}
@@ -60,12 +60,12 @@ returns : tie.Need-returns
 unfolding rowTests
 returns c = let a = c .before .before .before .before .before .before .before .before .before .before .before .before .before .args in
     let all = rowTests (a .q) (a .o) (a .row .now) in
-    check-on 4 11 (drop 7 all) (c .check6 .ensures) (c .before .is-mark-at3 .ensures)
-    (check-on 4 12 (drop 8 all) (c .before .before .check5 .ensures) (c .before .before .before .is-mark-at2 .ensures)
-    (check-on 4 13 (drop 9 all) (c .before .before .before .before .check4 .ensures) (c .before .before .before .before .before .is-mark-at .ensures)
-    (check-on 4 14 (drop 10 all) (c .before .before .before .before .before .before .check3 .ensures) (c .before .before .before .before .before .before .before .below-at3 .ensures)
-    (check-on 4 15 (drop 11 all) (c .before .before .before .before .before .before .before .before .check2 .ensures) (c .before .before .before .before .before .before .before .before .before .below-at2 .ensures ∙ ap (λ (n : ℕ). isBelow n (at 15 (a .row .now))) (add-one (a .q)))
-    (check-on 4 16 [] (c .before .before .before .before .before .before .before .before .before .before .check .ensures) (c .before .before .before .before .before .before .before .before .before .before .before .before .below-at .ensures ∙ ap (λ (n : ℕ). isBelow n (at 16 (a .row .now))) (add-one (a .o)))
+    check-on 4 ROW-ENABLE (drop 7 all) (c .check6 .ensures) (c .before .is-mark-at3 .ensures)
+    (check-on 4 ROW-FLAG (drop 8 all) (c .before .before .check5 .ensures) (c .before .before .before .is-mark-at2 .ensures)
+    (check-on 4 ROW-PENDING (drop 9 all) (c .before .before .before .before .check4 .ensures) (c .before .before .before .before .before .is-mark-at .ensures)
+    (check-on 4 ROW-START (drop 10 all) (c .before .before .before .before .before .before .check3 .ensures) (c .before .before .before .before .before .before .before .below-at3 .ensures)
+    (check-on 4 ROW-COUNT (drop 11 all) (c .before .before .before .before .before .before .before .before .check2 .ensures) (c .before .before .before .before .before .before .before .before .before .below-at2 .ensures ∙ ap (λ (n : ℕ). isBelow n (at ROW-COUNT (a .row .now))) (add-one (a .q)))
+    (check-on 4 ROW-WRITTEN [] (c .before .before .before .before .before .before .before .before .before .before .check .ensures) (c .before .before .before .before .before .before .before .before .before .before .before .before .below-at .ensures ∙ ap (λ (n : ℕ). isBelow n (at ROW-WRITTEN (a .row .now))) (add-one (a .o)))
     (accept-by (c .before .before .before .before .before .before .before .before .before .before .before .accept .ensures)))))))
 
 pub console-numbers-spec : {M : Type 1} → statement M

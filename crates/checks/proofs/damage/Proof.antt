@@ -1,4 +1,3 @@
--- `refusals::damage` meets its contract.
 use borrow.Author.Needs.{needs}
 use Rattle.definition.specs.Calls.{damageTest}
 use Rattle.checks.proofs.damage.Statement.{statement}

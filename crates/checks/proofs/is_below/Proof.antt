@@ -1,4 +1,3 @@
--- `refusals::is_below` meets its contract.
 use mir.Facts.{toZ-ofZ}
 use Rattle.word.proofs.Laws.{pos-cast}
 use Rattle.checks.proofs.Verdict.{below-negative, below-natural}

@@ -1,4 +1,3 @@
--- `refusals::is_mark_at` meets its contract.
 use borrow.Author.Needs.{needs}
 use Rattle.definition.specs.Calls.{isMark}
 use Rattle.word.proofs.Laws.{back}

@@ -1,4 +1,3 @@
--- `refusals::output_fits` meets its contract.
 use mathlib.Core.Path.{refl}
 use Rattle.definition.specs.Calls.{outputTest}
 use Rattle.checks.proofs.output_fits.Statement.{statement}

@@ -1,4 +1,3 @@
--- `refusals::queue_fits` meets its contract.
 use mathlib.Core.Path.{refl}
 use Rattle.definition.specs.Calls.{queueTest}
 use Rattle.checks.proofs.queue_fits.Statement.{statement}

@@ -1,4 +1,3 @@
--- `refusals::row_check` meets its contract.
 use borrow.Author.Tests.{eq-eqb, ne-eqb}
 use borrow.Author.Needs.{needs}
 use Rattle.definition.specs.Calls.{verdict, rowTests, lengthTest}

@@ -1,4 +1,3 @@
--- `refusals::row_numbers` meets its contract.
 use native.Mathlib.Omega.{arith}
 use borrow.Author.Needs.{needs}
 use Rattle.definition.specs.Calls.{verdict, rowTests}

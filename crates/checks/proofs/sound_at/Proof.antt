@@ -1,4 +1,3 @@
--- `refusals::sound_at` meets its contract.
 use mathlib.Core.Path.{_∙_, ap}
 use borrow.Author.Needs.{needs}
 use Rattle.definition.specs.Encoding.{sound}

@@ -29,7 +29,7 @@ use Rattle.runtime.proofs.perform.keep.Reads as keep-reads
 use Rattle.runtime.proofs.perform.keep_made.Reads as keep-made-reads
 
 fetch-requires : tie.Need-fetch-requires
-fetch-requires c κs = let p = c .before .before .before .before .before .pre in (p .0 .core-in .high, (p .0 .core-in .cellsS, p .1 .0))
+fetch-requires c κs = let p = c .before .before .before .before .before .pre in (p .0 .core-in .high, p .0 .core-in .cellsS)
 
 add-n : tie.Need-add-n
 add-n c = let h = c .before .before .before .before .before .before .before .before .before .before .pre .0 .cycles-in in let k = c .before .before .before .before .fetch .ensures .cheap in omega arith
@@ -103,7 +103,7 @@ same-length-5 c = search needs
 
 returns-4 : tie.Need-returns-4
 returns-4 c = let a = c .before .before .before .before .before .before .before .before .before .before .before .before .before .before .before .before .before .before .before .args in let p = c .before .before .before .before .before .before .before .before .before .before .before .before .before .before .before .before .before .before .before .pre in let l = a .cells .now in let q = a .queue .now in let o = a .output .now in let m = a .m in let f = c .before .before .before .before .before .before .before .before .before .before .before .before .before .fetch in let j = c .before .before .before .before .before .before .if1 in let to : Performed → M.Turn = λ e. concluded l q o e (f .result .i .cost) (m .cycles) in
-    c .before .before .before .finish .ensures q ∙ finished-step l q o m (a .saved) (f .result .i .cost) (j .e) (f .ensures .cheap) (p .1 .1)
+    c .before .before .before .finish .ensures q ∙ finished-step l q o m (a .saved) (f .result .i .cost) (j .e) (f .ensures .cheap) (p .1)
     (⊎-elim (λ w. let k = w .6 in ap to (w .9) ∙ served-on l q o m (f .result .i .cost) (k .result) (w .7 .left) (turn-ok l (m .s) (f .result) (f .ensures) q o (m .cycles) (m .k) (k .result) (w .0 .taken) (k .ensures)))
     (λ v. ⊎-elim (λ w. let d = w .6 in ap to (w .11 ∙ w .10 .ensures) ∙ (turn-ok l (m .s) (f .result) (f .ensures) q o (m .cycles) (m .k) (record { full = false; e = keptMade (d .result) (m .k) }) (w .0 .taken) (serves-made l q (length o) (f .result .s) (m .k) (f .result .i) (d .result) (d .ensures))))
     (λ w. ap to (w .1 ∙ c .before .before .before .before .before .before .before .keep .ensures ∙ ap (λ (x : Put). kept x (m .k)) (c .before .before .before .before .before .before .before .before .refuse .ensures)) ∙ turn-err l (m .s) (f .result) (f .ensures) (p .0 .core-in .high) q o (m .cycles) (m .k) (w .0 .left)) v) (j .came))

@@ -1,4 +1,3 @@
--- `encoding::cell_at` meets its contract.
 use borrow.Author.Needs.{needs}
 use Rattle.definition.specs.Memory.{cellAt}
 use Rattle.encoding.proofs.cell_at.Statement.{statement}

@@ -1,4 +1,3 @@
--- `encoding::is_address` meets its contract.
 use mir.Facts.{toZ-ofZ}
 use Rattle.encoding.proofs.Sound.{address-by}
 use Rattle.encoding.proofs.is_address.Statement.{statement}

@@ -1,11 +1,8 @@
--- `encoding::is_sound` meets its contract.
-use mathlib.Core.Path.{_∙_, ap}
-use Prim.Native.Nat.{ℕ}
-use lib.Dec.{eqb}
+use mathlib.Core.Path.{_∙_}
 use borrow.Author.Needs.{needs}
 use Rattle.definition.specs.Encoding.{sound}
 use Rattle.word.proofs.Laws.{back}
-use Rattle.encoding.proofs.Sound.{one-cell}
+use Rattle.encoding.proofs.Sound.{code, code-sound, far}
 use Rattle.encoding.proofs.is_sound.Statement.{statement}
 use Rattle.encoding.proofs.is_sound.Tie as tie
 
@@ -18,17 +15,33 @@ returns c = let v = c .before .before .before .before .before .args .v in
     let g = c .before .before .before .before .struct-told .given in
     rw (back (v .tag) (g .0 .1), back (v .first) (g .1 .0 .1), back (v .second) (g .1 .1 .0 .1)) at (c .sound-plain .ensures)
 
-slice-aggregate-lowest-damaged : tie.Need-slice-aggregate-lowest-damaged
-slice-aggregate-lowest-damaged c = search needs
+cast-sound-instruction : tie.Need-cast-sound-instruction
+cast-sound-instruction c = let v = c .before .before .before .before .before .args .v in
+    let b = back (v .tag) (c .before .before .before .before .struct-told .given .0 .1) in
+    rw b (code (v .tag) (rw b at (c .before .if1 .left)) (rw b at (c .if2 .taken)) .whole)
 
-lowest-damaged-requires : tie.Need-lowest-damaged-requires
-lowest-damaged-requires c κs = search needs
+sub-sound-instruction : tie.Need-sub-sound-instruction
+sub-sound-instruction c = let v = c .before .before .before .before .before .args .v in
+    let b = back (v .tag) (c .before .before .before .before .struct-told .given .0 .1) in
+    rw b (code (v .tag) (rw b at (c .before .if1 .left)) (rw b at (c .if2 .taken)) .least)
+
+sound-instruction-requires : tie.Need-sound-instruction-requires
+sound-instruction-requires c κs = let v = c .before .before .before .before .before .args .v in
+    let b = back (v .tag) (c .before .before .before .before .struct-told .given .0 .1) in
+    rw b (code (v .tag) (rw b at (c .before .if1 .left)) (rw b at (c .if2 .taken)) .most)
 
 returns-2 : tie.Need-returns-2
+unfolding sound
 returns-2 c = let v = c .before .before .before .before .before .before .args .v in
     let g = c .before .before .before .before .before .struct-told .given in
-    let e = rw (back (v .tag) (g .0 .1), back (v .first) (g .1 .0 .1), back (v .second) (g .1 .1 .0 .1)) at (c .lowest-damaged .ensures) in
-    ap (λ (n : ℕ). eqb n 1) e ∙ one-cell v
+    let b = back (v .tag) (g .0 .1) in
+    rw (b, back (v .first) (g .1 .0 .1), back (v .second) (g .1 .1 .0 .1)) at (c .sound-instruction .ensures) ∙ code-sound (v .tag) (v .first) (v .second) (rw b at (c .before .before .if1 .left))
+
+returns-3 : tie.Need-returns-3
+unfolding sound
+returns-3 c = let v = c .before .before .before .before .before .args .v in
+    let b = back (v .tag) (c .before .before .before .before .struct-told .given .0 .1) in
+    far (v .tag) (v .first) (v .second) (rw b at (c .if2 .left))
 
 pub is-sound-spec : {M : Type 1} → statement M
 is-sound-spec =
@@ -36,6 +49,8 @@ is-sound-spec =
     (tie.spec
     sound-plain-requires
     returns
-    slice-aggregate-lowest-damaged
-    lowest-damaged-requires
-    returns-2)
+    cast-sound-instruction
+    sub-sound-instruction
+    sound-instruction-requires
+    returns-2
+    returns-3)

@@ -1,4 +1,3 @@
--- `encoding::number_fits` meets its contract.
 use lib.IntN.{pos}
 use lib.Dec.{eqb}
 use mir.Facts.{toZ-ofZ}

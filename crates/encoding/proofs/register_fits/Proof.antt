@@ -1,4 +1,3 @@
--- `encoding::register_fits` meets its contract.
 use mathlib.Core.Path.{refl}
 use Rattle.definition.specs.Encoding.{registerFits}
 use Rattle.encoding.proofs.register_fits.Statement.{statement}

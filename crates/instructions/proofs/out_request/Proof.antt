@@ -1,72 +1,78 @@
-use mathlib.Core.Path.{sym, _∙_}
+use mathlib.Core.Path.{sym, _∙_, ap}
 use Rattle.word.proofs.Laws.{back}
-use Rattle.instructions.proofs.Laws.{out-yes, out-no, out-not, out-user}
+use Rattle.definition.specs.Exec.{core}
+use Rattle.definition.specs.Instructions.{outOp, writes}
+use Rattle.registers.specs.Meaning.{result}
+use Rattle.arguments.specs.Operands.{argOf}
+use Rattle.arguments.proofs.Laws.{word-of-is, address-of-is, word-ok, word-err}
+use Rattle.instructions.specs.declared.Asked.{Asked}
+use Rattle.instructions.proofs.Laws.{privileged, unprivileged, then-return}
 use borrow.Author.Needs.{needs}
 use Rattle.instructions.proofs.out_request.Statement.{statement}
 use Rattle.instructions.proofs.out_request.Tie as tie
 use Rattle.instructions.proofs.out_request.Reads as reads
 use Rattle.instructions.proofs.out_request.Lts as lts
-use Rattle.arguments.proofs.operand_word.Reads as operand-word-reads
-use Rattle.arguments.proofs.resolve.Reads as resolve-reads
-use Rattle.registers.proofs.get_reg.Reads as get-reg-reads
+use Rattle.arguments.proofs.address_of.Reads as address-of-reads
+use Rattle.instructions.proofs.not_asked.Reads as not-asked-reads
 use Rattle.registers.proofs.supervisor.Reads as supervisor-reads
+use Rattle.arguments.proofs.word_of.Reads as word-of-reads
 
 supervisor-requires : tie.Need-supervisor-requires
 supervisor-requires c κs = search needs
 
-get-reg-requires : tie.Need-get-reg-requires
-get-reg-requires c κs = search needs
+word-of-requires : tie.Need-word-of-requires
+word-of-requires c κs = search needs
 
-operand-word-requires : tie.Need-operand-word-requires
-operand-word-requires c κs = search needs
-
-enum-known-w : tie.Need-enum-known-w
-enum-known-w c = search needs
-
-get-reg-requires-2 : tie.Need-get-reg-requires-2
-get-reg-requires-2 c κs = search needs
-
-resolve-requires : tie.Need-resolve-requires
-resolve-requires c κs = search needs
-
-enum-known-n : tie.Need-enum-known-n
-enum-known-n c = search needs
-
-enum-told : tie.Need-enum-told
-enum-told c = search needs
-
-enum-told-2 : tie.Need-enum-told-2
-enum-told-2 c = search needs
+address-of-requires : tie.Need-address-of-requires
+address-of-requires c κs = search needs
 
 returns : tie.Need-returns
-returns c = let a = c .before .before .before .before .before .before .before .before .before .before .before .before .before .before .args in let l = a .cells .now in let e = rw (c .before .before .before .before .before .before .before .before .before .before .before .get-reg .ensures, back (a .x .number) (c .before .before .before .before .before .before .before .before .before .before .struct-told .given .1 .1 .0 .1)) at (c .before .before .before .before .before .before .before .before .before .operand-word .ensures) in let f = rw (c .before .before .before .before .before .get-reg2 .ensures, back (a .y .number) (c .before .before .before .before .struct-told2 .given .1 .1 .0 .1)) at (c .before .before .before .resolve .ensures) in let w = c .before .before .before .before .before .before .before .w .given .0 .0 in
-    rw (back w (c .before .before .before .before .before .before .known-told .given .0 .1)) (out-yes l (a .s) (a .x) (a .y) (sym (c .before .before .before .before .before .before .before .before .before .before .before .before .before .supervisor .ensures) ∙ c .before .before .before .before .before .before .before .before .before .before .before .before .if1 .taken) w (c .before .n .given .0 .0) (sym e ∙ c .before .before .before .before .before .before .before .w .given .1) (sym f ∙ c .before .n .given .1))
+unfolding outOp
+returns c =
+    let at-address-of = c .before .before in
+    let at-if2 = at-address-of .before in
+    let at-word-of = at-if2 .before .before in
+    let at-if1 = at-word-of .before in
+    let at-supervisor = at-if1 .before in
+    let start = at-supervisor .before in
+    let a = start .args in let l = a .cells .now in let t = at-word-of .word-of .result in let n = at-address-of .address-of .result in
+    rw (back (t .value) (c .struct-told .given .1 .1 .0 .1)) (privileged (a .s) l _ (sym (at-supervisor .supervisor .ensures) ∙ at-if1 .if1 .taken) (word-ok l t (word-of-is l (a .s) (argOf (a .x)) t (at-word-of .word-of .ensures)) _ (at-if2 .if2 .taken) (then-return (λ n. writes n (t .value)) (n .value) (n .ok) (n .error) (core l (n .s)) (address-of-is l (t .s) (argOf (a .y)) n (at-address-of .address-of .ensures l)))))
+
+not-asked-requires : tie.Need-not-asked-requires
+not-asked-requires c κs = search needs
 
 returns-2 : tie.Need-returns-2
-returns-2 c = let a = c .before .before .before .before .before .before .before .before .before .before .before .before .before .args in let l = a .cells .now in let e = rw (c .before .before .before .before .before .before .before .before .before .before .get-reg .ensures, back (a .x .number) (c .before .before .before .before .before .before .before .before .before .struct-told .given .1 .1 .0 .1)) at (c .before .before .before .before .before .before .before .before .operand-word .ensures) in let f = rw (c .before .before .before .before .get-reg2 .ensures, back (a .y .number) (c .before .before .before .struct-told2 .given .1 .1 .0 .1)) at (c .before .before .resolve .ensures) in
-    out-no l (a .s) (a .x) (a .y) (sym (c .before .before .before .before .before .before .before .before .before .before .before .before .supervisor .ensures) ∙ c .before .before .before .before .before .before .before .before .before .before .before .if1 .taken) (c .before .before .before .before .before .before .w .given .0 .0) (sym e ∙ c .before .before .before .before .before .before .w .given .1) (sym f ∙ c .enum-told .given .1)
+unfolding outOp
+returns-2 c =
+    let at-if2 = c .before in
+    let at-word-of = at-if2 .before .before in
+    let at-if1 = at-word-of .before in
+    let at-supervisor = at-if1 .before in
+    let start = at-supervisor .before in
+    let a = start .args in let l = a .cells .now in let t = at-word-of .word-of .result in
+    privileged (a .s) l _ (sym (at-supervisor .supervisor .ensures) ∙ at-if1 .if1 .taken) (word-err l t (word-of-is l (a .s) (argOf (a .x)) t (at-word-of .word-of .ensures)) _ (at-if2 .if2 .left) (ap (λ (q : Asked). result (writes (q .port) (q .w)) (q .ok) (q .error) (core l (q .s))) (c .not-asked .ensures)))
+
+not-asked-requires-2 : tie.Need-not-asked-requires-2
+not-asked-requires-2 c κs = search needs
 
 returns-3 : tie.Need-returns-3
-returns-3 c = let a = c .before .before .before .before .before .before .before .args in let l = a .cells .now in let e = rw (c .before .before .before .before .get-reg .ensures, back (a .x .number) (c .before .before .before .struct-told .given .1 .1 .0 .1)) at (c .before .before .operand-word .ensures) in
-    out-not l (a .s) (a .x) (a .y) (sym (c .before .before .before .before .before .before .supervisor .ensures) ∙ c .before .before .before .before .before .if1 .taken) (sym e ∙ c .enum-told2 .given .1)
-
-returns-4 : tie.Need-returns-4
-returns-4 c = let a = c .before .before .args in let l = a .cells .now in out-user l (a .s) (a .x) (a .y) (sym (c .before .supervisor .ensures) ∙ c .if1 .left)
+unfolding outOp
+returns-3 c =
+    let at-if1 = c .before in
+    let at-supervisor = at-if1 .before in
+    let start = at-supervisor .before in
+    let a = start .args in let l = a .cells .now in
+    unprivileged (a .s) l _ (sym (at-supervisor .supervisor .ensures) ∙ at-if1 .if1 .left) (ap (λ (q : Asked). result (writes (q .port) (q .w)) (q .ok) (q .error) (core l (q .s))) (c .not-asked2 .ensures))
 
 pub out-request-spec : {M : Type 1} → statement M
 out-request-spec =
     tie.close
     (tie.spec
     supervisor-requires
-    get-reg-requires
-    operand-word-requires
-    enum-known-w
-    get-reg-requires-2
-    resolve-requires
-    enum-known-n
-    enum-told
-    enum-told-2
+    word-of-requires
+    address-of-requires
     returns
+    not-asked-requires
     returns-2
-    returns-3
-    returns-4)
+    not-asked-requires-2
+    returns-3)

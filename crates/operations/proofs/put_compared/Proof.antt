@@ -4,7 +4,7 @@ use mathlib.Core.Bool.{Bool}
 use Rattle.definition.specs.Registers.{putFlag, assigned}
 use Rattle.definition.specs.declared.Registers.{Registers}
 use Rattle.definition.specs.Instructions.{putCompared}
-use Rattle.registers.specs.Answer.{settled}
+use Rattle.registers.specs.Meaning.{settled}
 use borrow.Author.Needs.{needs}
 use Rattle.operations.proofs.put_compared.Statement.{statement}
 use Rattle.operations.proofs.put_compared.Tie as tie

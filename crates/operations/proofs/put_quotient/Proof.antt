@@ -3,7 +3,7 @@ use mathlib.Core.Path.{sym, _∙_, ap}
 use Rattle.definition.specs.declared.Quotient.{Quotient}
 use Rattle.definition.specs.Registers.{regAt}
 use Rattle.definition.specs.Instructions.{putQuotient}
-use Rattle.registers.specs.Answer.{settled}
+use Rattle.registers.specs.Meaning.{settled}
 use borrow.Author.Needs.{needs}
 use Rattle.operations.proofs.put_quotient.Statement.{statement}
 use Rattle.operations.proofs.put_quotient.Tie as tie

@@ -4,7 +4,7 @@ use Rattle.definition.specs.declared.Cell.{Cell}
 use Rattle.definition.specs.declared.Registers.{Registers}
 use Rattle.definition.specs.Registers.{putReg, regAt, assigned, putFlag}
 use Rattle.definition.specs.Instructions.{putWrapped, signFlags}
-use Rattle.registers.specs.Answer.{settled}
+use Rattle.registers.specs.Meaning.{settled}
 use Rattle.operations.proofs.Laws.{flags-yes, flags-no}
 use borrow.Author.Needs.{needs}
 use Rattle.operations.proofs.put_wrapped.Statement.{statement}

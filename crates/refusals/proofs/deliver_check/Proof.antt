@@ -1,4 +1,3 @@
--- `refusals::deliver_check` meets its contract.
 use mathlib.Core.Path.{_≡_, _∙_, sym}
 use mathlib.Core.Bool.{cond}
 use Prim.Native.Nat.{_-_}
@@ -8,7 +7,8 @@ use lib.ListN.{length}
 use borrow.Author.Needs.{needs}
 use Rattle.definition.specs.Calls.{deliverCheck, queueTest, numberOfRow}
 use Rattle.checks.specs.Refusals.{refused}
-use Rattle.checks.proofs.Verdict.{row-passed, row-refused, row-accepted, passed-by, refused-by, first-passed, first-refused, check-by, accept-by, room, queue-lengths}
+use Rattle.definition.proofs.Row.{queue-fits}
+use Rattle.checks.proofs.Verdict.{row-passed, row-refused, row-accepted, passed-by, refused-by, first-passed, first-refused, check-by, accept-by, room}
 use Rattle.refusals.proofs.deliver_check.Statement.{statement}
 use Rattle.refusals.proofs.deliver_check.Tie as tie
 
@@ -16,12 +16,12 @@ queue-fits-requires : tie.Need-queue-fits-requires
 queue-fits-requires c κs = search needs
 
 row-check-requires : tie.Need-row-check-requires
-row-check-requires c κs = (queue-lengths (c .before .before .before .before .args .queue .now) (sym (c .before .queue-fits .ensures) ∙ c .if1 .taken) .1, omega arith)
+row-check-requires c κs = (queue-fits (c .before .before .before .before .args .queue .now) (sym (c .before .queue-fits .ensures) ∙ c .if1 .taken) .most, omega arith)
 
 number-at-requires : tie.Need-number-at-requires
 number-at-requires c κs = let a = c .before .before .before .before .before .before .before .args in
     let f = row-accepted (length (a .queue .now)) 65536 (a .row .now) (c .before .before .row-check .ensures) (c .if2 .taken) in
-    omega (arith, f .sixteen)
+    omega (arith, f .long)
 
 sub-room : tie.Need-sub-room
 sub-room c = let a = c .before .before .before .before .before .before .before .before .args in

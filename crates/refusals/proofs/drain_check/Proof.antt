@@ -1,10 +1,10 @@
--- `refusals::drain_check` meets its contract.
 use mathlib.Core.Path.{_∙_, sym}
 use native.Mathlib.Omega.{arith}
 use lib.ListN.{length}
 use borrow.Author.Needs.{needs}
 use Rattle.definition.specs.Calls.{drainCheck, outputTest}
-use Rattle.checks.proofs.Verdict.{row-passed, row-refused, row-accepted, passed-by, refused-by, first-passed, first-refused, check-by, accept-by, output-length}
+use Rattle.definition.proofs.Row.{output-fits}
+use Rattle.checks.proofs.Verdict.{row-passed, row-refused, row-accepted, passed-by, refused-by, first-passed, first-refused, check-by, accept-by}
 use Rattle.refusals.proofs.drain_check.Statement.{statement}
 use Rattle.refusals.proofs.drain_check.Tie as tie
 
@@ -12,12 +12,12 @@ output-fits-requires : tie.Need-output-fits-requires
 output-fits-requires c κs = search needs
 
 row-check-requires : tie.Need-row-check-requires
-row-check-requires c κs = (omega arith, output-length (c .before .before .before .before .args .output .now) (sym (c .before .output-fits .ensures) ∙ c .if1 .taken))
+row-check-requires c κs = (omega arith, output-fits (c .before .before .before .before .args .output .now) (sym (c .before .output-fits .ensures) ∙ c .if1 .taken))
 
 number-at-requires : tie.Need-number-at-requires
 number-at-requires c κs = let a = c .before .before .before .before .before .before .before .args in
     let f = row-accepted 4096 (length (a .output .now)) (a .row .now) (c .before .before .row-check .ensures) (c .if2 .taken) in
-    omega (arith, f .sixteen)
+    omega (arith, f .long)
 
 accept-requires : tie.Need-accept-requires
 accept-requires c κs = search needs

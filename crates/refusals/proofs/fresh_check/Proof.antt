@@ -1,4 +1,3 @@
--- `refusals::fresh_check` meets its contract.
 use mathlib.Core.Path.{_≡_}
 use mathlib.Core.Bool.{Bool, cond}
 use mathlib.Core.List.{List}
@@ -7,6 +6,7 @@ use lib.IntN.{ℤ}
 use lib.ListN.{length}
 use borrow.Author.Needs.{needs}
 use Rattle.definition.specs.declared.Done.{Done}
+use Rattle.definition.specs.Constants.{ROW}
 use Rattle.definition.specs.Calls.{accepted, verdict, freshCheck, cellsTest, lengthTest}
 use Rattle.checks.specs.Refusals.{refused}
 use Rattle.refusals.proofs.fresh_check.Statement.{statement}
@@ -25,7 +25,7 @@ check-requires-2 : tie.Need-check-requires-2
 check-requires-2 c κs = search needs
 
 -- the two tests, over plain values
-tests : (cells row : List ℤ) {w : Bool} {d e f : Done} → w ≡ cellsTest cells .passed → d ≡ cond w e (refused 1 0) → e ≡ cond (eqb (length row) 16) f (refused 4 0) → f ≡ accepted → d ≡ freshCheck cells row
+tests : (cells row : List ℤ) {w : Bool} {d e f : Done} → w ≡ cellsTest cells .passed → d ≡ cond w e (refused 1 0) → e ≡ cond (eqb (length row) ROW) f (refused 4 0) → f ≡ accepted → d ≡ freshCheck cells row
 unfolding freshCheck verdict cellsTest lengthTest
 tests cells row h d e f = rw (d, e, f, h)
 

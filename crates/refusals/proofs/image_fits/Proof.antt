@@ -1,4 +1,3 @@
--- `refusals::image_fits` meets its contract.
 use Prim.Native.Nat.{_%_}
 use lib.Dec.{eqb, leb}
 use lib.ListN.{length}

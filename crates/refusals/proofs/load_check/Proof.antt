@@ -1,4 +1,3 @@
--- `refusals::load_check` meets its contract.
 use mathlib.Core.Path.{_≡_, _∙_, sym}
 use mathlib.Core.Bool.{_&&_}
 use Prim.Native.Nat.{_+_, _%_}

@@ -1,4 +1,3 @@
--- `refusals::own_sound` meets its contract.
 use mathlib.Core.Path.{_∙_, ap, sym}
 use borrow.Author.Tests.{le-leb, lt-leb}
 use borrow.Author.Needs.{needs}

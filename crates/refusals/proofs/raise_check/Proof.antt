@@ -1,4 +1,3 @@
--- `refusals::raise_check` meets its contract.
 use mathlib.Core.List.{[]}
 use mathlib.Core.Path.{_∙_, sym}
 use lib.Dec.{leb}

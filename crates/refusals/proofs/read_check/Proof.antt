@@ -1,4 +1,3 @@
--- `refusals::read_check` meets its contract.
 use borrow.Author.Needs.{needs}
 use Rattle.definition.specs.Calls.{readCheck, verdict, cellsTest}
 use Rattle.refusals.proofs.read_check.Statement.{statement}

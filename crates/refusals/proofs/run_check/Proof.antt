@@ -1,10 +1,10 @@
--- `refusals::run_check` meets its contract.
 use mathlib.Core.List.{[]}
 use mathlib.Core.Path.{_∙_, sym}
 use lib.ListN.{length}
 use borrow.Author.Needs.{needs}
 use Rattle.definition.specs.Calls.{lowestDamaged, runCheck, cellsTest, queueTest, outputTest, damageTest}
-use Rattle.checks.proofs.Verdict.{row-passed, row-refused, passed-by, refused-by, first-passed, first-refused, queue-lengths, output-length, check-by, accept-by}
+use Rattle.definition.proofs.Row.{queue-fits, output-fits}
+use Rattle.checks.proofs.Verdict.{row-passed, row-refused, passed-by, refused-by, first-passed, first-refused, check-by, accept-by}
 use Rattle.refusals.proofs.run_check.Statement.{statement}
 use Rattle.refusals.proofs.run_check.Tie as tie
 
@@ -19,7 +19,7 @@ output-fits-requires c κs = search needs
 
 row-check-requires : tie.Need-row-check-requires
 row-check-requires c κs = let a = c .before .before .before .before .before .before .before .before .args in
-    (queue-lengths (a .queue .now) (sym (c .before .before .before .before .queue-fits .ensures) ∙ c .before .if2 .taken) .1, output-length (a .output .now) (sym (c .before .before .before .output-fits .ensures) ∙ c .if3 .taken))
+    (queue-fits (a .queue .now) (sym (c .before .before .before .before .queue-fits .ensures) ∙ c .before .if2 .taken) .most, output-fits (a .output .now) (sym (c .before .before .before .output-fits .ensures) ∙ c .if3 .taken))
 
 accept-requires : tie.Need-accept-requires
 accept-requires c κs = search needs

@@ -1,4 +1,3 @@
--- `refusals::set_register_check` meets its contract.
 use mathlib.Core.Path.{_∙_}
 use mir.Facts.{toZ-ofZ}
 use borrow.Author.Needs.{needs}

@@ -2,7 +2,7 @@ use Rattle.definition.specs.declared.Address.{Address}
 use Rattle.definition.specs.declared.Word.{Word}
 use Rattle.definition.specs.Registers.{putPc, putSp, putSr, supervisor, putReg, regAt, Reg}
 use mathlib.Core.Path.{_∙_, ap}
-use Rattle.registers.specs.Answer.{settled}
+use Rattle.registers.specs.Meaning.{settled}
 use Rattle.registers.proofs.Laws.{reg-is, reg-else}
 use borrow.Author.Needs.{needs}
 use Rattle.registers.proofs.put_reg.Statement.{statement}

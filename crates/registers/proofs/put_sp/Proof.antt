@@ -1,7 +1,7 @@
 use mathlib.Core.Path.{sym, _∙_, ap}
 use Rattle.definition.specs.Registers.{putSp}
 use Rattle.definition.specs.declared.Address.{Address}
-use Rattle.registers.specs.Answer.{settled}
+use Rattle.registers.specs.Meaning.{settled}
 use borrow.Author.Needs.{needs}
 use Rattle.registers.proofs.put_sp.Statement.{statement}
 use Rattle.registers.proofs.put_sp.Tie as tie

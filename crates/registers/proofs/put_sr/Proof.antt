@@ -2,7 +2,7 @@ use mathlib.Core.Path.{sym, _∙_, ap, ap₂}
 use mathlib.Core.Bool.{Bool}
 use Rattle.definition.specs.Registers.{putSr}
 use Rattle.definition.specs.declared.Word.{Word}
-use Rattle.registers.specs.Answer.{settled}
+use Rattle.registers.specs.Meaning.{settled}
 use Rattle.word.proofs.Laws.{back}
 use borrow.Author.Needs.{needs}
 use Rattle.registers.proofs.put_sr.Statement.{statement}

@@ -4,22 +4,23 @@ use Prim.Native.Nat.{ℕ, _+_}
 use native.Mathlib.Omega.{arith}
 use lib.ListN.{length, take, drop, length-append}
 use lib.IntN.{ℤ}
+use Rattle.definition.specs.Constants.{ROW, ROW-A, ROW-B, ROW-WRITTEN}
 use Rattle.definition.specs.Calls.{at}
-use Rattle.report.specs.Text.{line, cellsText, aName, bName, outName}
+use Rattle.report.specs.Text.{line, numbersFrom, cellsText, aName, bName, outName}
 use Rattle.report.proofs.Laws.{put-then, one-of, three-of}
 use borrow.Author.Needs.{needs}
 use Rattle.report.proofs.put_cells.Statement.{statement}
 use Rattle.report.proofs.put_cells.Tie as tie
 
 -- Over plain values, where `omega` has little to read: the three parts of a row,
-module _ (w : List ℤ) (k : length w ≡ 16) where
-  a-of : take 3 (drop 0 w) ≡ at 1 w ∷ at 2 w ∷ at 3 w ∷ []
+module _ (w : List ℤ) (k : length w ≡ ROW) where
+  a-of : take 3 (drop 0 w) ≡ numbersFrom ROW-A w
   a-of = three-of w 0 (omega arith)
 
-  b-of : take 3 (drop 3 w) ≡ at 4 w ∷ at 5 w ∷ at 6 w ∷ []
+  b-of : take 3 (drop 3 w) ≡ numbersFrom ROW-B w
   b-of = three-of w 3 (omega arith)
 
-  out-of : take 1 (drop 15 w) ≡ at 16 w ∷ []
+  out-of : take 1 (drop 15 w) ≡ at ROW-WRITTEN w ∷ []
   out-of = one-of w 15 (omega arith)
 
 -- and what three lines add to the count.
@@ -96,9 +97,9 @@ returns c = let s = c .before .before .before .before .before .before .before .b
     let e = rw (a-of w k) at (p .ensures) in
     let f = rw (b-of w k) at (c .before .before .before .before .before .before .before .before .put-line2 .ensures) in
     let g = rw (out-of w k) at (c .before .before .put-line3 .ensures) in
-    let t = line aName (at 1 w ∷ at 2 w ∷ at 3 w ∷ []) in
-    let u = line bName (at 4 w ∷ at 5 w ∷ at 6 w ∷ []) in
-    let v = line outName (at 16 w ∷ []) in
+    let t = line aName (numbersFrom ROW-A w) in
+    let u = line bName (numbersFrom ROW-B w) in
+    let v = line outName (at ROW-WRITTEN w ∷ []) in
     (put-then (take (a .at) (a .out .now)) t (u ++ v) (e .0) (put-then (take (p .result) (p .last .0)) u v (f .0) (g .0)), count (a .at) t u v (e .1) (f .1) (g .1))
 
 pub put-cells-spec : {M : Type 1} → statement M

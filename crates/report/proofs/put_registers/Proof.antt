@@ -1,6 +1,7 @@
 use mathlib.Core.List.{[], _∷_}
 use native.Mathlib.Omega.{arith}
 use lib.ListN.{take, length-append}
+use Rattle.definition.specs.Constants.{ROW-PC, ROW-SP, ROW-SR, ROW-CYCLES}
 use Rattle.definition.specs.Calls.{at}
 use Rattle.report.specs.Text.{line, registersText, cyclesName, regsName}
 use Rattle.report.proofs.Laws.{put-then, one-of, three-of}
@@ -50,7 +51,7 @@ unfolding registersText
 returns c = let a = c .before .before .before .before .before .before .before .before .before .before .before .before .before .args in let w = a .row .now in
     let e = rw (one-of w 9 (omega arith)) at (c .before .before .before .before .before .before .before .before .put-line .ensures) in
     let f = rw (three-of w 6 (omega arith)) at (c .before .before .put-line2 .ensures) in
-    (put-then (take (a .at) (a .out .now)) (line cyclesName (at 10 w ∷ [])) (line regsName (at 7 w ∷ at 8 w ∷ at 9 w ∷ [])) (e .0) (f .0), simp length-append (omega arith))
+    (put-then (take (a .at) (a .out .now)) (line cyclesName (at ROW-CYCLES w ∷ [])) (line regsName (at ROW-PC w ∷ at ROW-SP w ∷ at ROW-SR w ∷ [])) (e .0) (f .0), simp length-append (omega arith))
 
 pub put-registers-spec : {M : Type 1} → statement M
 put-registers-spec =

@@ -1,4 +1,3 @@
--- `row::console_state` meets its contract.
 use borrow.Author.Needs.{needs}
 use Rattle.row.proofs.console_state.Statement.{statement}
 use Rattle.row.proofs.console_state.Tie as tie

@@ -1,4 +1,3 @@
--- `row::mark_number` meets its contract.
 use Rattle.row.proofs.mark_number.Statement.{statement}
 use Rattle.row.proofs.mark_number.Tie as tie
 

@@ -1,4 +1,3 @@
--- `row::marks` meets its contract.
 use borrow.Author.Needs.{needs}
 use Rattle.row.proofs.marks.Statement.{statement}
 use Rattle.row.proofs.marks.Tie as tie

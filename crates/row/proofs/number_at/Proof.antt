@@ -1,4 +1,3 @@
--- `row::number_at` meets its contract.
 use borrow.Author.Needs.{needs}
 use Rattle.word.proofs.Laws.{back}
 use Rattle.row.proofs.number_at.Statement.{statement}

@@ -1,4 +1,3 @@
--- `row::put_cell` meets its contract.
 use native.Mathlib.Omega.{arith}
 use lib.ListN.{length-set}
 use borrow.Author.Needs.{needs}

@@ -1,4 +1,3 @@
--- `row::put_console` meets its contract.
 use mir.Facts.{toZ-pos}
 use mir.Syntax.{w64}
 use borrow.Author.Needs.{needs}

@@ -1,4 +1,3 @@
--- `row::put_marks` meets its contract.
 use borrow.Author.Needs.{needs}
 use Rattle.word.proofs.Laws.{back}
 use Rattle.row.proofs.put_marks.Statement.{statement}

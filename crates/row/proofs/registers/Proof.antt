@@ -1,4 +1,3 @@
--- `row::registers` meets its contract.
 use borrow.Author.Needs.{needs}
 use Rattle.word.proofs.Laws.{back}
 use Rattle.row.proofs.registers.Statement.{statement}

@@ -1,8 +1,10 @@
--- `row::write_row` meets its contract.
-use lib.IntN.{pos}
+use mathlib.Core.List.{[]}
 use borrow.Author.Needs.{needs}
-use Rattle.definition.specs.Calls.{rowOf, mark}
-use Rattle.row.proofs.Lists.{sixteen-stores}
+use Rattle.definition.specs.Exec.{core}
+use Rattle.definition.specs.Runtime.{machine}
+use Rattle.definition.specs.Calls.{rowOf}
+use Rattle.console.specs.Meaning.{consoleOf}
+use Rattle.row.proofs.Lists.{all-stored}
 use Rattle.row.proofs.write_row.Statement.{statement}
 use Rattle.row.proofs.write_row.Tie as tie
 
@@ -26,11 +28,10 @@ same-length c = search needs
 
 returns : tie.Need-returns
 unfolding rowOf
-returns c = let a = c .before .before .before .before .before .before .before .before .before .before .before .before .before .before .before .before .before .before .args in
-    let s = a .s in
-    let k = a .k in
+returns c = let e = c .before .before .before .before .before .before .before .before .before .before .before .before .before .before .before .before .before .before in
+    let a = e .args in
     rw (c .before .put-console .ensures, c .before .before .before .before .put-marks .ensures, c .before .before .before .before .before .before .before .put-numbers .ensures, c .before .before .before .before .before .before .before .before .before .before .put-cell2 .ensures, c .before .before .before .before .before .before .before .before .before .before .before .before .before .put-cell .ensures)
-    (sixteen-stores (a .row .now) (s .a .tag) (s .a .first) (s .a .second) (s .b .tag) (s .b .first) (s .b .second) (pos (s .pc)) (pos (s .sp)) (s .sr) (pos (a .cycles)) (mark (k .marks .enable)) (mark (k .marks .flag)) (mark (k .marks .pending)) (pos (k .start)) (pos (k .count)) (pos (k .written)) (c .before .before .before .before .before .before .before .before .before .before .before .before .before .before .before .before .before .before .pre .0))
+    (all-stored (rowOf (machine (core [] (a .s)) (a .cycles) (consoleOf (a .k) [] []))) (a .row .now) (e .pre .0))
 
 pub write-row-spec : {M : Type 1} → statement M
 write-row-spec =

@@ -1,15 +1,16 @@
-use mathlib.Core.Path.{_≡_}
+use mathlib.Core.Path.{_≡_, refl, ap, _∙_}
+use mathlib.Core.List.{[]}
 use lib.ListN.{length}
+use Rattle.lines.specs.declared.Reader.{Reader}
+use Rattle.lines.specs.Reader.{state, opened}
+use Rattle.runner.specs.Input.{TextRead}
+use Rattle.runner.proofs.Laws.{and-read}
 use borrow.Author.Needs.{needs}
 use Rattle.runner.proofs.read_all.Statement.{statement}
 use Rattle.runner.proofs.read_all.Tie as tie
-use Rattle.runner.proofs.read_all.Reads as reads
-use Rattle.runner.proofs.read_all.Lts as lts
-use Rattle.lines.proofs.open.Reads as open-reads
-use Rattle.runner.proofs.read_part.Reads as read-part-reads
 
 abbrev Inv-loop : tie.InvT-loop
-Inv-loop fd cells₀ r₀ turns₀ cells r turns = length cells ≡ length cells₀
+Inv-loop fd cells₀ r₀ turns₀ cells r turns = (length cells ≡ length cells₀) × TextRead (state opened cells₀) (state r cells)
 
 abbrev μ-loop : tie.MeasureT-loop
 μ-loop fd cells₀ r₀ turns₀ cells r turns = turns
@@ -18,7 +19,7 @@ open-requires : tie.Need-open-requires Inv-loop μ-loop
 open-requires c κs = search needs
 
 loop-holds : tie.Need-loop-holds Inv-loop μ-loop
-loop-holds c = search needs
+loop-holds c = (refl, record { text = []; taken = ap (λ (r : Reader). state r (c .before .args .cells .now)) (c .open .ensures) })
 
 read-part-requires : tie.Need-read-part-requires Inv-loop μ-loop
 read-part-requires c κs = search needs
@@ -27,7 +28,7 @@ same-length : tie.Need-same-length Inv-loop μ-loop
 same-length c = search needs
 
 returns : tie.Need-returns Inv-loop μ-loop
-returns c = search needs
+returns c = and-read (c .before .before .before .before .before .before .loop .inv .1) (c .before .before .before .read-part .ensures)
 
 sub-turns : tie.Need-sub-turns Inv-loop μ-loop
 sub-turns c = search needs
@@ -36,13 +37,15 @@ loop-less : tie.Need-loop-less Inv-loop μ-loop
 loop-less c = search needs
 
 loop-again : tie.Need-loop-again Inv-loop μ-loop
-loop-again c = search needs
+loop-again c = let v = c .before .before .before .before .before .before .loop .inv in
+    let p = c .before .before .before .read-part in
+    (p .kept .1 .0 ∙ v .0, and-read (v .1) (p .ensures))
 
 same-length-2 : tie.Need-same-length-2 Inv-loop μ-loop
 same-length-2 c = search needs
 
 returns-2 : tie.Need-returns-2 Inv-loop μ-loop
-returns-2 c = search needs
+returns-2 c = c .before .loop .inv .1
 
 pub read-all-spec : {M : Type 1} → statement M
 read-all-spec =

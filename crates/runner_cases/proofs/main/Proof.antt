@@ -2,10 +2,6 @@ use Prim.Native.Nat.{_-_}
 use borrow.Author.Needs.{needs}
 use Rattle.runner_cases.proofs.main.Statement.{statement}
 use Rattle.runner_cases.proofs.main.Tie as tie
-use Rattle.runner_cases.proofs.main.Reads as reads
-use Rattle.runner_cases.proofs.main.Lts as lts
-use Rattle.os.proofs.arg_count.Reads as arg-count-reads
-use Rattle.runner_cases.proofs.replay_file.Reads as replay-file-reads
 
 abbrev Inv-loop : tie.InvT-loop
 Inv-loop n i₀ i = Unit {0}

@@ -1,12 +1,13 @@
+use mathlib.Core.Path.{ap, _∙_}
+use mathlib.Core.List.{foldl}
 use native.Mathlib.Omega.{arith}
-use lib.ListN.{length, length-take}
+use lib.ListN.{take, length-take}
+use Rattle.lines.specs.declared.Reader.{Reader}
+use Rattle.lines.specs.Reader.{state, step, opened}
+use Rattle.runner_cases.proofs.Laws.{two-parts}
 use borrow.Author.Needs.{needs}
 use Rattle.runner_cases.proofs.read_cut.Statement.{statement}
 use Rattle.runner_cases.proofs.read_cut.Tie as tie
-use Rattle.runner_cases.proofs.read_cut.Reads as reads
-use Rattle.runner_cases.proofs.read_cut.Lts as lts
-use Rattle.lines.proofs.open.Reads as open-reads
-use Rattle.lines.proofs.part.take_part.Reads as take-part-reads
 
 open-requires : tie.Need-open-requires
 open-requires c κs = search needs
@@ -33,7 +34,9 @@ same-length : tie.Need-same-length
 same-length c = search needs
 
 returns : tie.Need-returns
-returns c = search needs
+returns c = let o = c .before .before .before .before .before .before .before .before .before in
+    let a = o .before .before .args in
+    two-parts (state opened (a .cells .now)) (a .input .now) (a .cut) (c .before .before .before .before .before .take-part .ensures ∙ ap (λ (r : Reader). foldl step (state r (a .cells .now)) (take (a .cut) (a .input .now))) (o .open .ensures)) (c .before .take-part2 .ensures)
 
 take-part-requires-3 : tie.Need-take-part-requires-3
 take-part-requires-3 c κs = search needs
@@ -42,7 +45,9 @@ same-length-2 : tie.Need-same-length-2
 same-length-2 c = search needs
 
 returns-2 : tie.Need-returns-2
-returns-2 c = search needs
+returns-2 c = let o = c .before .before .before .before in
+    let a = o .before .before .args in
+    c .before .take-part3 .ensures ∙ ap (λ (r : Reader). foldl step (state r (a .cells .now)) (a .input .now)) (o .open .ensures)
 
 pub read-cut-spec : {M : Type 1} → statement M
 read-cut-spec =

@@ -1,22 +1,19 @@
 use Prim.Native.Nat.{_≤_, _-_}
+use native.Mathlib.Omega.{arith}
 use lib.ListN.{length}
 use borrow.Author.Needs.{needs}
+use Rattle.runner_cases.proofs.Laws.{Counted, counted-none, counted-more, counted-rest, counted-whole}
 use Rattle.runner_cases.proofs.replay.Statement.{statement}
 use Rattle.runner_cases.proofs.replay.Tie as tie
-use Rattle.runner_cases.proofs.replay.Reads as reads
-use Rattle.runner_cases.proofs.replay.Lts as lts
-use Rattle.runner_cases.proofs.length_at.Reads as length-at-reads
-use Rattle.runner_cases.proofs.passes.Reads as passes-reads
-use Rattle.runner_cases.proofs.tell.Reads as tell-reads
 
 abbrev Inv-loop : tie.InvT-loop
-Inv-loop s at₀ seen₀ passed₀ at seen passed = (at ≤ length s) × (seen ≤ at) × (passed ≤ at)
+Inv-loop s at₀ seen₀ passed₀ at seen passed = (at ≤ length s) × (seen ≤ at) × (passed ≤ at) × Counted s at seen passed
 
 abbrev μ-loop : tie.MeasureT-loop
 μ-loop s at₀ seen₀ passed₀ at seen passed = length s - at
 
 loop-holds : tie.Need-loop-holds Inv-loop μ-loop
-loop-holds c = search needs
+loop-holds c = (omega arith, omega arith, omega arith, counted-none (c .before .args .s .now))
 
 sub-left : tie.Need-sub-left Inv-loop μ-loop
 sub-left c = search needs
@@ -76,16 +73,27 @@ loop-less : tie.Need-loop-less Inv-loop μ-loop
 loop-less c = search needs
 
 loop-again : tie.Need-loop-again Inv-loop μ-loop
-loop-again c = search needs
+loop-again c = let i = c .before .before .before .before in
+    let b = i .before in
+    let a = b .before in
+    let v = a .before .before .before .loop in
+    let s = a .before .before .before .before .before .args .s .now in
+    (omega arith, omega arith, omega (arith, c .before .passes .ensures .1), counted-more s (v .at) (v .seen) (v .passed) (a .length-at .result) (b .length-at2 .result) (v .inv .3) (a .length-at .ensures .0) (b .length-at2 .ensures .0) (c .before .passes .result) (omega arith) (omega arith) (c .before .passes .ensures .0))
 
 returns : tie.Need-returns Inv-loop μ-loop
-returns c = search needs
+returns c = let v = c .before .loop in
+    counted-rest (c .before .before .before .args .s .now) (v .at) (v .seen) (v .passed) (v .inv .3) (omega arith)
 
 returns-2 : tie.Need-returns-2 Inv-loop μ-loop
-returns-2 c = search needs
+returns-2 c = let v = c .before .before .loop in
+    counted-rest (c .before .before .before .before .args .s .now) (v .at) (v .seen) (v .passed) (v .inv .3) (omega arith)
 
 returns-3 : tie.Need-returns-3 Inv-loop μ-loop
-returns-3 c = search needs
+returns-3 c = let b = c .before in
+    let a = b .before in
+    let v = a .before .before .before .loop in
+    let s = a .before .before .before .before .before .args .s .now in
+    counted-whole s (v .at) (v .seen) (v .passed) (a .length-at .result) (b .length-at2 .result) (v .inv .3) (a .length-at .ensures .0) (b .length-at2 .ensures .0) (omega arith)
 
 pub replay-spec : {M : Type 1} → statement M
 replay-spec =

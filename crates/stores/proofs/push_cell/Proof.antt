@@ -1,5 +1,5 @@
 use mathlib.Core.Path.{_∙_}
-use Rattle.registers.specs.Answer.{result}
+use Rattle.registers.specs.Meaning.{result}
 use Rattle.stores.proofs.Laws.{push-at}
 use borrow.Author.Needs.{needs}
 use Rattle.stores.proofs.push_cell.Statement.{statement}

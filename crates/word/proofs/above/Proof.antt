@@ -1,4 +1,3 @@
--- `word::above` meets its contract.
 use mathlib.Core.Path.{sym}
 use Prim.Native.Nat.{_<_}
 use native.Mathlib.Nat.{zero-mul}

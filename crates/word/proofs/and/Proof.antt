@@ -1,4 +1,3 @@
--- `word::and` meets its contract.
 use lib.Bits.{bitAnd}
 use Rattle.definition.specs.Word.{andW}
 use Rattle.word.proofs.Laws.{on-bits}

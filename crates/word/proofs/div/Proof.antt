@@ -1,4 +1,3 @@
--- `word::div` meets its contract.
 use mathlib.Core.Path.{_≡_}
 use mathlib.Core.Bool.{false}
 use mir.Facts.{toZ-ofZ}

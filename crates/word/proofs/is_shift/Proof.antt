@@ -1,4 +1,3 @@
--- `word::is_shift` meets its contract.
 use mir.Facts.{toZ-ofZ}
 use Rattle.definition.specs.Word.{isShift}
 use Rattle.word.proofs.is_shift.Statement.{statement}

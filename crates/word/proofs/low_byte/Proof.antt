@@ -1,4 +1,3 @@
--- `word::low_byte` meets its contract.
 use native.Mathlib.Omega.{arith}
 use mir.Syntax.{w64}
 use mir.Val.{ofZ}

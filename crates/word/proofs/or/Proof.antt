@@ -1,4 +1,3 @@
--- `word::or` meets its contract.
 use lib.Bits.{bitOr}
 use Rattle.definition.specs.Word.{orW}
 use Rattle.word.proofs.Laws.{on-bits}

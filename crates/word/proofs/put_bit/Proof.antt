@@ -1,4 +1,3 @@
--- `word::put_bit` meets its contract.
 use mathlib.Core.Path.{ap}
 use borrow.Author.Needs.{needs}
 use mir.Syntax.{w64}

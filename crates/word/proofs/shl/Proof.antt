@@ -1,4 +1,3 @@
--- `word::shl` meets its contract.
 use mathlib.Core.Path.{ap}
 use Prim.Native.Nat.{_^_}
 use borrow.Author.Needs.{needs}

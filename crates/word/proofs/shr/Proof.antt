@@ -1,4 +1,3 @@
--- `word::shr` meets its contract.
 use mathlib.Core.Path.{ap, _∙_}
 use Prim.Native.Nat.{_^_}
 use lib.IntN.{ℤ}

@@ -1,4 +1,3 @@
--- `word::test_bit` meets its contract.
 use borrow.Author.Needs.{needs}
 use mir.Syntax.{w64}
 use mir.Val.{ofZ}

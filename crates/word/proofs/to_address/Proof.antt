@@ -1,4 +1,3 @@
--- `word::to_address` meets its contract.
 use mir.Facts.{toZ-ofZ}
 use Rattle.word.proofs.Laws.{address-cast, address-by}
 use Rattle.word.proofs.to_address.Statement.{statement}

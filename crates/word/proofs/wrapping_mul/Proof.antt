@@ -1,4 +1,3 @@
--- `word::wrapping_mul` meets its contract.
 use Prim.Native.Nat.{_/_, _%_, _^_}
 use native.Mathlib.Omega.{arith}
 use borrow.Author.Needs.{needs}

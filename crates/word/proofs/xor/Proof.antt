@@ -1,4 +1,3 @@
--- `word::xor` meets its contract.
 use lib.Bits.{bitXor}
 use Rattle.definition.specs.Word.{xorW}
 use Rattle.word.proofs.Laws.{on-bits}

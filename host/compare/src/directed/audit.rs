@@ -19,7 +19,7 @@ pub fn cases() -> Vec<Directed> {
     cases
 }
 
-fn nop() -> [i64; 3] {
+fn nop() -> Cell {
     instruction(NOP, NONE, NONE)
 }
 
@@ -71,14 +71,14 @@ fn pc_has_moved_on() -> Vec<Directed> {
 }
 
 fn order_of_tests() -> Vec<Directed> {
-    let stops = |name: &str, cell: [i64; 3], stop: u64, detail: u64| {
+    let stops = |name: &str, cell: Cell, stop: u64, detail: u64| {
         at_10(name, cell)
             .register(at::A, nop())
             .register(at::B, word(-1))
             .stops(stop, detail)
             .then(at::PC, 11)
     };
-    let supervisor = |name: &str, cell: [i64; 3], stop: u64| {
+    let supervisor = |name: &str, cell: Cell, stop: u64| {
         at_10(name, cell)
             .row(at::SR, S)
             .register(at::A, nop())
@@ -181,7 +181,7 @@ fn poll_without_handler() -> Vec<Directed> {
 }
 
 fn full_cycles() -> Vec<Directed> {
-    let full = |name: &str, cell: [i64; 3]| at_10(name, cell).row(at::CYCLES, MOST);
+    let full = |name: &str, cell: Cell| at_10(name, cell).row(at::CYCLES, MOST);
     let ld = instruction(LD, dir(50), reg(A));
     vec![
         full("full cycles: nop", nop()).stops(7, 0),

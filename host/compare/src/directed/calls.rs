@@ -21,13 +21,13 @@ fn delivering() -> Vec<Directed> {
             .call(deliver(&[7, 8]), DONE)
             .then_queue(0, 7)
             .then_queue(1, 8)
-            .then(at::COUNT, 3),
+            .then(at::QUEUE_COUNT, 3),
         machine("deliver with enable set")
             .queue(&[1, 2, 3], 0, 0)
             .row(at::ENABLE, 1)
             .call(deliver(&[7]), DONE)
             .then_queue(0, 7)
-            .then(at::COUNT, 1)
+            .then(at::QUEUE_COUNT, 1)
             .then(at::FLAG, 1)
             .then(at::PENDING, 1),
         machine("delivering none does nothing")
@@ -44,7 +44,7 @@ fn delivering() -> Vec<Directed> {
             .call(deliver(&[7, 8]), DONE)
             .then_queue(2, 7)
             .then_queue(0, 8)
-            .then(at::COUNT, 3),
+            .then(at::QUEUE_COUNT, 3),
         machine("a read byte leaves its place free")
             .cell(0, instruction(IN, dir(111), reg(A)))
             .row(at::SR, S)
@@ -53,7 +53,7 @@ fn delivering() -> Vec<Directed> {
             .call(deliver(&[9]), DONE)
             .then_register(at::A, word(2))
             .then_queue(1, 9)
-            .then(at::START, 0)
+            .then(at::QUEUE_START, 0)
             .then_at(1, 2),
     ]
 }
@@ -63,11 +63,11 @@ fn draining() -> Vec<Directed> {
         machine("drain leaves the record's bytes")
             .output(&[7, 8, 9], 2)
             .call(Call::Drain(5), Answer { count: 2, ..DONE })
-            .then(at::WRITTEN, 0),
+            .then(at::OUTPUT_COUNT, 0),
         machine("drain into as many places")
             .output(&[7, 8, 9], 3)
             .call(Call::Drain(3), Answer { count: 3, ..DONE })
-            .then(at::WRITTEN, 0),
+            .then(at::OUTPUT_COUNT, 0),
         machine("drain nothing").output(&[7, 8, 9], 0).call(Call::Drain(0), DONE),
         machine("drain into too few places").output(&[7, 8, 9], 3).call(Call::Drain(2), Answer::refused(7)),
         machine("out after drain starts from the front")
@@ -78,7 +78,7 @@ fn draining() -> Vec<Directed> {
             .call(Call::Drain(2), Answer { count: 2, ..DONE })
             .run(1, 0, 0, 1)
             .then_output(0, 65)
-            .then(at::WRITTEN, 1)
+            .then(at::OUTPUT_COUNT, 1)
             .then_at(1, 2),
     ]
 }

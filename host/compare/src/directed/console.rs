@@ -30,21 +30,21 @@ fn reads() -> Vec<Directed> {
             .queue(&BYTES, 1, 2)
             .done()
             .then_register(at::A, word(22))
-            .then(at::START, 2)
-            .then(at::COUNT, 1)
+            .then(at::QUEUE_START, 2)
+            .then(at::QUEUE_COUNT, 1)
             .then_at(11, 2),
         input("the start wraps", 111)
             .queue(&BYTES, 3, 4)
             .done()
             .then_register(at::A, word(44))
-            .then(at::START, 0)
-            .then(at::COUNT, 3)
+            .then(at::QUEUE_START, 0)
+            .then(at::QUEUE_COUNT, 3)
             .then_at(11, 2),
         input("a queue of one place", 111)
             .queue(&[9], 0, 1)
             .done()
             .then_register(at::A, word(9))
-            .then(at::COUNT, 0)
+            .then(at::QUEUE_COUNT, 0)
             .then_at(11, 2),
         input("no byte reads 0 and moves nothing", 111)
             .queue(&BYTES, 3, 0)
@@ -62,8 +62,8 @@ fn reads() -> Vec<Directed> {
             .queue(&BYTES, 0, 1)
             .done()
             .then(at::SP, 11)
-            .then(at::START, 1)
-            .then(at::COUNT, 0)
+            .then(at::QUEUE_START, 1)
+            .then(at::QUEUE_COUNT, 0)
             .then_at(11, 2),
         at_10("in in user mode reads nothing", instruction(IN, dir(111), reg(A)))
             .queue(&BYTES, 0, 1)
@@ -82,12 +82,12 @@ fn writes() -> Vec<Directed> {
             .output(&[7, 7], 1)
             .done()
             .then_output(1, 255)
-            .then(at::WRITTEN, 2)
+            .then(at::OUTPUT_COUNT, 2)
             .then_at(11, 2),
         output("out of a negative word", -2, 111)
             .done()
             .then_output(0, 254)
-            .then(at::WRITTEN, 1)
+            .then(at::OUTPUT_COUNT, 1)
             .then_at(11, 2),
         output("enable without bytes", 3, 110).done().then(at::ENABLE, 1).then_at(11, 2),
         output("enable with bytes sets flag and mark", 1, 110)

@@ -1,5 +1,7 @@
 //! Sentences on instructions, memory and exception entry.
 
+use layout::cell::EMPTY;
+
 use super::*;
 use crate::forms::*;
 
@@ -105,12 +107,12 @@ fn cells_carried() -> Vec<Directed> {
         at_10("ld carries an empty cell", instruction(LD, dir(50), reg(A)))
             .register(at::A, word(4))
             .done()
-            .then_register(at::A, [0, 0, 0])
+            .then_register(at::A, EMPTY)
             .then_at(11, 2),
         at_10("push carries an empty cell", instruction(PUSH, reg(A), NONE))
             .cell(999, word(4))
             .done()
-            .then_cell(999, [0, 0, 0])
+            .then_cell(999, EMPTY)
             .then(at::SP, 999)
             .then_at(11, 1),
         at_10("push carries an instruction", instruction(PUSH, reg(B), NONE))
@@ -128,7 +130,7 @@ fn cells_carried() -> Vec<Directed> {
         at_10("swap carries cells of any kind", instruction(SWAP, dir(50), reg(A)))
             .register(at::A, nop)
             .done()
-            .then_register(at::A, [0, 0, 0])
+            .then_register(at::A, EMPTY)
             .then_cell(50, nop)
             .then_at(11, 2),
         at_10("fas carries an instruction", instruction(FAS, dir(50), reg(A)))
@@ -216,7 +218,7 @@ fn addresses() -> Vec<Directed> {
 fn fetch_and_entry() -> Vec<Directed> {
     let nop = instruction(NOP, NONE, NONE);
     vec![
-        at_10("an empty cell is no instruction", [0, 0, 0]).stops(2, 2).then(at::PC, 11),
+        at_10("an empty cell is no instruction", EMPTY).stops(2, 2).then(at::PC, 11),
         at_10("a word is no instruction", word(20_702))
             .cell(200, nop)
             .done()

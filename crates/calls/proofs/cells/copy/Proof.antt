@@ -1,4 +1,3 @@
--- `calls::cells::copy` meets its contract.
 use mathlib.Core.Path.{_≡_, _∙_, refl}
 use mathlib.Core.List.{_++_}
 use Prim.Native.Nat.{_-_, _≤_}

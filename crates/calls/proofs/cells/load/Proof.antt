@@ -1,4 +1,3 @@
--- `calls::cells::load` meets its contract.
 use borrow.Author.Needs.{needs}
 use Rattle.definition.specs.Calls.{load}
 use Rattle.checks.proofs.Verdict.{passed-by, refused-by}

@@ -1,4 +1,3 @@
--- `calls::cells::place_image` meets its contract.
 use borrow.Author.Needs.{needs}
 use Rattle.calls.proofs.Parts.{loaded-part}
 use Rattle.calls.proofs.cells.place_image.Statement.{statement}

@@ -1,4 +1,3 @@
--- `calls::cells::read_cell` meets its contract.
 use native.Mathlib.Omega.{arith}
 use borrow.Author.Needs.{needs}
 use Rattle.definition.specs.Calls.{readCell}

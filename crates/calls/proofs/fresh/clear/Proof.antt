@@ -1,4 +1,3 @@
--- `calls::fresh::clear` meets its contract.
 use mathlib.Core.Path.{_≡_, _∙_, refl}
 use mathlib.Core.List.{[], _++_, append-nil}
 use Prim.Native.Nat.{_-_, _≤_}

@@ -1,4 +1,3 @@
--- `calls::fresh::fresh` meets its contract.
 use borrow.Author.Needs.{needs}
 use Rattle.definition.specs.Calls.{fresh}
 use Rattle.checks.proofs.Verdict.{passed-by, refused-by}

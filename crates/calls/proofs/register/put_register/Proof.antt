@@ -1,9 +1,8 @@
--- `calls::register::put_register` meets its contract.
 use mathlib.Core.Path.{_∙_}
 use mir.Facts.{toZ-ofZ}
 use borrow.Author.Needs.{needs}
 use Rattle.definition.specs.Calls.{withRegister}
-use Rattle.row.proofs.RowBack.{register-is, register-sp}
+use Rattle.row.proofs.Register.{register-is, register-sp}
 use Rattle.calls.proofs.register.put_register.Statement.{statement}
 use Rattle.calls.proofs.register.put_register.Tie as tie
 

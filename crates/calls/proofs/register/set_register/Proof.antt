@@ -1,4 +1,3 @@
--- `calls::register::set_register` meets its contract.
 use mir.Facts.{toZ-ofZ}
 use borrow.Author.Needs.{needs}
 use Rattle.definition.specs.Calls.{setRegister}
@@ -12,7 +11,7 @@ set-register-check-requires c κs = search needs
 
 put-register-requires : tie.Need-put-register-requires
 put-register-requires c κs = let a = c .before .before .before .before .before .args in
-    set-register-passed (a .row .now) (a .r) (a .w) (passed-by (rw (toZ-ofZ (c .before .before .before .before .before .fits .w)) at (c .before .before .before .set-register-check .ensures)) (c .before .if1 .taken)) .sixteen
+    set-register-passed (a .row .now) (a .r) (a .w) (passed-by (rw (toZ-ofZ (c .before .before .before .before .before .fits .w)) at (c .before .before .before .set-register-check .ensures)) (c .before .if1 .taken)) .long
 
 accept-requires : tie.Need-accept-requires
 accept-requires c κs = search needs

@@ -1,4 +1,3 @@
--- `calls::serial::deliver` meets its contract.
 use native.Mathlib.Omega.{arith}
 use borrow.Author.Needs.{needs}
 use Rattle.definition.specs.Io.{firstFree}
@@ -25,7 +24,7 @@ put-bytes-requires c κs = let a = c .before .before .before .before .before .be
 put-delivered-requires : tie.Need-put-delivered-requires
 put-delivered-requires c κs = let a = c .before .before .before .before .before .before .before .before .before .before .before .before .before .before .args in
     let p = deliver-passed (a .queue .now) (a .row .now) (a .bytes .now) (passed-by (c .before .before .before .before .before .before .before .before .before .deliver-check .ensures) (c .before .before .before .before .before .before .before .if1 .taken)) in
-    (p .row-fits .sixteen, omega (arith, p .room, p .queue-most))
+    (p .row-fits .long, omega (arith, p .room, p .queue-most))
 
 accept-requires : tie.Need-accept-requires
 accept-requires c κs = search needs

@@ -1,4 +1,3 @@
--- `calls::serial::drain` meets its contract.
 use native.Mathlib.Omega.{arith}
 use borrow.Author.Needs.{needs}
 use Rattle.definition.specs.Calls.{drain}
@@ -13,7 +12,7 @@ drain-check-requires c κs = search needs
 number-at-requires : tie.Need-number-at-requires
 number-at-requires c κs = let a = c .before .before .before .before .before .before .before .before .args in
     let p = drain-passed (a .output .now) (a .row .now) (a .buffer .now) (passed-by (c .before .before .before .drain-check .ensures) (c .before .if1 .taken)) in
-    omega (arith, p .row-fits .sixteen)
+    omega (arith, p .row-fits .long)
 
 drain-to-requires : tie.Need-drain-to-requires
 drain-to-requires c κs = let a = c .before .before .before .before .before .before .before .before .before .before .args in
@@ -23,7 +22,7 @@ drain-to-requires c κs = let a = c .before .before .before .before .before .bef
 put-requires : tie.Need-put-requires
 put-requires c κs = let a = c .before .before .before .before .before .before .before .before .before .before .before .before .before .before .args in
     let p = drain-passed (a .output .now) (a .row .now) (a .buffer .now) (passed-by (c .before .before .before .before .before .before .before .before .before .drain-check .ensures) (c .before .before .before .before .before .before .before .if1 .taken)) in
-    omega (arith, p .row-fits .sixteen)
+    omega (arith, p .row-fits .long)
 
 same-length : tie.Need-same-length
 same-length c = search needs

@@ -1,4 +1,3 @@
--- `calls::serial::first_free` meets its contract.
 use borrow.Author.Needs.{needs}
 use Rattle.calls.proofs.serial.first_free.Statement.{statement}
 use Rattle.calls.proofs.serial.first_free.Tie as tie

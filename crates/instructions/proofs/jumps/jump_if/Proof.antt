@@ -1,83 +1,53 @@
 use mathlib.Core.Path.{sym, _∙_, ap}
-use lib.IntN.{natAbs}
-use Rattle.word.proofs.Laws.{back, address-cast, address-by}
-use Rattle.definition.specs.Memory.{asAddress}
-use Rattle.definition.specs.Computer.{core, branch, return}
+use mathlib.Core.Bool.{Bool}
+use Prim.Native.Nat.{ℕ}
+use Rattle.definition.specs.Registers.{with-pc}
+use Rattle.definition.specs.Exec.{Res, core, andThen, branch, return, change}
 use Rattle.definition.specs.Instructions.{jump}
-use Rattle.registers.specs.Answer.{putRes}
-use Rattle.arguments.specs.By.{argOf}
-use Rattle.stores.proofs.Laws.{jump-yes, jump-no}
-use Rattle.instructions.proofs.Laws.{branch-is}
+use Rattle.registers.specs.Meaning.{putRes}
+use Rattle.arguments.specs.Operands.{argOf}
+use Rattle.arguments.proofs.Laws.{target-of-is}
 use borrow.Author.Needs.{needs}
 use Rattle.instructions.proofs.jumps.jump_if.Statement.{statement}
 use Rattle.instructions.proofs.jumps.jump_if.Tie as tie
 use Rattle.instructions.proofs.jumps.jump_if.Reads as reads
 use Rattle.instructions.proofs.jumps.jump_if.Lts as lts
-use Rattle.arguments.proofs.operand_word.Reads as operand-word-reads
 use Rattle.registers.proofs.accept.Reads as accept-reads
-use Rattle.registers.proofs.get_reg.Reads as get-reg-reads
-use Rattle.registers.proofs.refuse.Reads as refuse-reads
+use Rattle.instructions.proofs.jumps.jump_to.Reads as jump-to-reads
+use Rattle.arguments.proofs.target_of.Reads as target-of-reads
 
-get-reg-requires : tie.Need-get-reg-requires
-get-reg-requires c κs = search needs
+target-of-requires : tie.Need-target-of-requires
+target-of-requires c κs = search needs
 
-operand-word-requires : tie.Need-operand-word-requires
-operand-word-requires c κs = search needs
-
-enum-known-w : tie.Need-enum-known-w
-enum-known-w c = search needs
-
-cast-t : tie.Need-cast-t
-cast-t c = let w = c .before .before .w .given .0 .0 in let f = back w (c .before .known-told .given .0 .1) in rw f (address-cast w (rw f at (c .if2 .taken)))
+jump-to-requires : tie.Need-jump-to-requires
+jump-to-requires c κs = search needs
 
 accept-requires : tie.Need-accept-requires
 accept-requires c κs = search needs
 
-refuse-requires : tie.Need-refuse-requires
-refuse-requires c κs = search needs
-
-enum-told : tie.Need-enum-told
-enum-told c = search needs
-
-refuse-requires-2 : tie.Need-refuse-requires-2
-refuse-requires-2 c κs = search needs
-
-accept-requires-2 : tie.Need-accept-requires-2
-accept-requires-2 c κs = search needs
-
 returns : tie.Need-returns
-unfolding branch asAddress
-returns c = let k = c .before .before .before .before .before in let a = k .before .before .before .before .args in let l = a .cells .now in let w = c .before .before .before .w .given .0 .0 in let f = back w (c .before .before .known-told .given .0 .1) in let e = rw (k .before .before .get-reg .ensures, back (a .x .number) (k .before .struct-told .given .1 .1 .0 .1)) at (k .operand-word .ensures) in
-    ap (putRes l) (rw f at (c .accept .ensures)) ∙ jump-yes l (a .s) (a .x) (natAbs w) (ap asAddress (sym e ∙ c .before .before .before .w .given .1) ∙ sym (address-by w (rw f at (c .before .if2 .taken)))) ∙ branch-is (jump (argOf (a .x))) (return tt) (core l (a .s)) (k .before .before .before .if1 .taken)
+unfolding branch jump
+returns c =
+    let at-target-of = c .before in
+    let at-if1 = at-target-of .before in
+    let start = at-if1 .before in
+    let a = start .args in let l = a .cells .now in let x = argOf (a .x) in
+    c .jump-to .ensures l ∙ ap (λ (m : Res ℕ). andThen m (λ n. change (with-pc n))) (target-of-is l (a .s) x (at-target-of .target-of .result) (at-target-of .target-of .ensures)) ∙ ap (λ (b : Bool). branch b (jump x) (return tt) (core l (a .s))) (sym (at-if1 .if1 .taken))
 
 returns-2 : tie.Need-returns-2
-unfolding branch asAddress
-returns-2 c = let k = c .before .before .before .before .before in let a = k .before .before .before .before .args in let l = a .cells .now in let w = c .before .before .before .w .given .0 .0 in let f = back w (c .before .before .known-told .given .0 .1) in let e = rw (k .before .before .get-reg .ensures, back (a .x .number) (k .before .struct-told .given .1 .1 .0 .1)) at (k .operand-word .ensures) in
-    ap (putRes l) (c .refuse .ensures) ∙ jump-no l (a .s) (a .x) (ap asAddress (sym e ∙ c .before .before .before .w .given .1) ∙ sym (address-by w (rw f at (c .before .if2 .left)))) ∙ branch-is (jump (argOf (a .x))) (return tt) (core l (a .s)) (k .before .before .before .if1 .taken)
-
-returns-3 : tie.Need-returns-3
-unfolding branch asAddress
-returns-3 c = let k = c .before .before .before in let a = k .before .before .before .before .args in let l = a .cells .now in let e = rw (k .before .before .get-reg .ensures, back (a .x .number) (k .before .struct-told .given .1 .1 .0 .1)) at (k .operand-word .ensures) in
-    ap (putRes l) (c .refuse2 .ensures) ∙ jump-no l (a .s) (a .x) (ap asAddress (sym e ∙ c .before .enum-told .given .1)) ∙ branch-is (jump (argOf (a .x))) (return tt) (core l (a .s)) (k .before .before .before .if1 .taken)
-
-returns-4 : tie.Need-returns-4
 unfolding branch
-returns-4 c = let a = c .before .before .args in let l = a .cells .now in ap (putRes l) (c .accept2 .ensures) ∙ branch-is (jump (argOf (a .x))) (return tt) (core l (a .s)) (c .before .if1 .left)
+returns-2 c =
+    let at-if1 = c .before in
+    let start = at-if1 .before in
+    let a = start .args in let l = a .cells .now in
+    ap (putRes l) (c .accept .ensures) ∙ ap (λ (b : Bool). branch b (jump (argOf (a .x))) (return tt) (core l (a .s))) (sym (at-if1 .if1 .left))
 
 pub jump-if-spec : {M : Type 1} → statement M
 jump-if-spec =
     tie.close
     (tie.spec
-    get-reg-requires
-    operand-word-requires
-    enum-known-w
-    cast-t
+    target-of-requires
+    jump-to-requires
     accept-requires
-    refuse-requires
-    enum-told
-    refuse-requires-2
-    accept-requires-2
     returns
-    returns-2
-    returns-3
-    returns-4)
+    returns-2)

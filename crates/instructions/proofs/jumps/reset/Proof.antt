@@ -1,5 +1,5 @@
 use mathlib.Core.Path.{_∙_, ap}
-use Rattle.registers.specs.Answer.{putRes}
+use Rattle.registers.specs.Meaning.{putRes}
 use Rattle.instructions.proofs.Laws.{reset-is}
 use borrow.Author.Needs.{needs}
 use Rattle.instructions.proofs.jumps.reset.Statement.{statement}

@@ -1,53 +1,59 @@
-use mathlib.Core.Path.{sym, _∙_, ap}
-use native.Mathlib.Omega.{arith}
-use Rattle.definition.specs.Registers.{regAt}
-use Rattle.registers.specs.Answer.{putRes}
+use mathlib.Core.Path.{_∙_, ap}
+use Rattle.definition.specs.Registers.{regAt, putReg}
+use Rattle.definition.specs.Instructions.{popOp}
+use Rattle.registers.specs.Meaning.{putRes}
 use Rattle.registers.proofs.Laws.{settled-is}
-use Rattle.instructions.proofs.Laws.{pop-yes, pop-no, sp-fits}
+use Rattle.arguments.proofs.Laws.{cell-ok, cell-err}
+use Rattle.instructions.proofs.Laws.{refused-is, pop-is}
 use borrow.Author.Needs.{needs}
 use Rattle.instructions.proofs.moves.pop.Statement.{statement}
 use Rattle.instructions.proofs.moves.pop.Tie as tie
-use Rattle.instructions.proofs.moves.pop.Reads as reads
-use Rattle.instructions.proofs.moves.pop.Lts as lts
-use Rattle.memory.proofs.get.Reads as get-reads
-use Rattle.registers.proofs.put_reg.Reads as put-reg-reads
-use Rattle.registers.proofs.refuse.Reads as refuse-reads
 
-get-requires : tie.Need-get-requires
-get-requires c κs = search needs
-
-enum-known-v : tie.Need-enum-known-v
-enum-known-v c = search needs
-
-add-t : tie.Need-add-t
-add-t c = let s = c .before .before .before .before .before in omega (arith, sp-fits (s .args .cells .now) (s .args .s .sp) (c .before .before .v .given .0 .0) (s .pre) (sym (c .before .before .before .before .get .ensures) ∙ c .before .before .v .given .1))
+pop-cell-requires : tie.Need-pop-cell-requires
+pop-cell-requires c κs = search needs
 
 put-reg-requires : tie.Need-put-reg-requires
 put-reg-requires c κs = search needs
 
-enum-told : tie.Need-enum-told
-enum-told c = search needs
+returns : tie.Need-returns
+unfolding popOp
+returns c =
+    let at-put-reg = c .before in
+    let at-if1 = at-put-reg .before .before in
+    let at-pop-cell = at-if1 .before .before in
+    let start = at-pop-cell .before in
+    let a = start .args in let l = a .cells .now in let t = at-pop-cell .pop-cell .result in
+    cell-ok l t (pop-is l (a .s) t (at-pop-cell .pop-cell .ensures)) _ (at-if1 .if1 .taken) (ap (putRes l) (at-put-reg .put-reg .ensures) ∙ settled-is (t .s) l _)
 
 refuse-requires : tie.Need-refuse-requires
 refuse-requires c κs = search needs
 
-returns : tie.Need-returns
-returns c = let a = c .before .before .before .before .before .before .args in let l = a .cells .now in
-    ap (putRes l) (c .put-reg .ensures) ∙ settled-is _ l _ ∙ pop-yes l (a .s) (regAt (a .r)) (c .before .before .before .v .given .0 .0) (sym (c .before .before .before .before .before .get .ensures) ∙ c .before .before .before .v .given .1)
-
 returns-2 : tie.Need-returns-2
-returns-2 c = let a = c .before .before .before .before .args in let l = a .cells .now in
-    ap (putRes l) (c .refuse .ensures) ∙ pop-no l (a .s) (regAt (a .r)) (sym (c .before .before .before .get .ensures) ∙ c .before .enum-told .given .1)
+unfolding popOp
+returns-2 c =
+    let at-if2 = c .before in
+    let at-put-reg = at-if2 .before in
+    let at-if1 = at-put-reg .before .before in
+    let at-pop-cell = at-if1 .before .before in
+    let start = at-pop-cell .before in
+    let a = start .args in let l = a .cells .now in let t = at-pop-cell .pop-cell .result in
+    let p = putReg (regAt (a .r)) (t .value) (t .s) in
+    cell-ok l t (pop-is l (a .s) t (at-pop-cell .pop-cell .ensures)) _ (at-if1 .if1 .taken)
+    (ap (putRes l) (c .refuse .ensures ∙ refused-is (t .s) p (at-put-reg .put-reg .result) (at-put-reg .put-reg .ensures) (at-if2 .if2 .left)) ∙ settled-is (t .s) l p)
+
+refuse-requires-2 : tie.Need-refuse-requires-2
+refuse-requires-2 c κs = search needs
+
+returns-3 : tie.Need-returns-3
+unfolding popOp
+returns-3 c =
+    let at-if1 = c .before in
+    let at-pop-cell = at-if1 .before .before in
+    let start = at-pop-cell .before in
+    let a = start .args in let l = a .cells .now in let t = at-pop-cell .pop-cell .result in
+    cell-err l t (pop-is l (a .s) t (at-pop-cell .pop-cell .ensures)) _ (at-if1 .if1 .left) (ap (putRes l) (c .refuse2 .ensures))
 
 pub pop-spec : {M : Type 1} → statement M
 pop-spec =
     tie.close
-    (tie.spec
-    get-requires
-    enum-known-v
-    add-t
-    put-reg-requires
-    enum-told
-    refuse-requires
-    returns
-    returns-2)
+    (tie.spec pop-cell-requires put-reg-requires returns refuse-requires returns-2 refuse-requires-2 returns-3)

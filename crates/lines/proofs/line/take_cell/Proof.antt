@@ -5,16 +5,17 @@ use mathlib.Core.Bool.{true, false}
 use lib.IntN.{natAbs}
 use Rattle.definition.specs.Calls.{isBelow}
 use Rattle.definition.specs.Encoding.{sound}
+use Rattle.definition.proofs.Row.{below-in}
 use Rattle.word.proofs.Laws.{back}
 use Rattle.lines.specs.declared.Reader.{Reader}
 use Rattle.lines.specs.Reader.{lineCell, state}
-use Rattle.lines.proofs.Laws.{below-in, cell-put, cell-damaged, cell-outside}
+use Rattle.lines.proofs.Laws.{cell-put, cell-damaged, cell-outside}
 use borrow.Author.Needs.{needs}
 use Rattle.lines.proofs.line.take_cell.Statement.{statement}
 use Rattle.lines.proofs.line.take_cell.Tie as tie
 use Rattle.lines.proofs.line.take_cell.Reads as reads
 use Rattle.lines.proofs.line.take_cell.Lts as lts
-use Rattle.encoding.proofs.sound_cell.Reads as sound-cell-reads
+use Rattle.encoding.proofs.is_sound.Reads as is-sound-reads
 use Rattle.lines.proofs.break_line.Reads as break-line-reads
 use Rattle.lines.proofs.line.line_cell.Reads as line-cell-reads
 use Rattle.lines.proofs.line.next_line.Reads as next-line-reads
@@ -28,8 +29,8 @@ line-cell-requires c κs = search needs
 is-below-requires : tie.Need-is-below-requires
 is-below-requires c κs = search needs
 
-sound-cell-requires : tie.Need-sound-cell-requires
-sound-cell-requires c κs = search needs
+is-sound-requires : tie.Need-is-sound-requires
+is-sound-requires c κs = search needs
 
 magnitude-requires : tie.Need-magnitude-requires
 magnitude-requires c κs = search needs
@@ -40,8 +41,8 @@ put-cell-requires c κs = let a = c .before .before .before .before .before .bef
     let b = back x (c .before .before .before .before .before .before .before .struct-told .given .0 .1) in
     let t : isBelow 2048 x ≡ true = ap (isBelow 2048) (sym b) ∙ sym (c .before .before .before .before .before .is-below .ensures) ∙ c .before .before .before .before .if1 .taken in
     let n : c .before .magnitude .result ≡ natAbs x = c .before .magnitude .ensures ∙ ap natAbs b in
-    let h = below-in 2048 x t in
-    let p = c .before .before .before .before .before .before .before .before .before .pre .0 in
+    let h = below-in 2048 x t .1 in
+    let p = c .before .before .before .before .before .before .before .before .before .pre in
     omega arith
 
 next-line-requires : tie.Need-next-line-requires
@@ -56,7 +57,7 @@ returns c = let a = c .before .before .before .before .before .before .before .b
     let b = back x (c .before .before .before .before .before .before .before .before .before .before .struct-told .given .0 .1) in
     let t : isBelow 2048 x ≡ true = ap (isBelow 2048) (sym b) ∙ sym (c .before .before .before .before .before .before .before .before .is-below .ensures) ∙ c .before .before .before .before .before .before .before .if1 .taken in
     let v : c .before .before .before .before .before .before .before .before .before .line-cell .result ≡ lineCell (a .r) = c .before .before .before .before .before .before .before .before .before .line-cell .ensures in
-    let s : sound (lineCell (a .r)) ≡ true = ap sound (sym v) ∙ sym (c .before .before .before .before .before .before .sound-cell .ensures) ∙ c .before .before .before .before .before .if2 .taken in
+    let s : sound (lineCell (a .r)) ≡ true = ap sound (sym v) ∙ sym (c .before .before .before .before .before .before .is-sound .ensures) ∙ c .before .before .before .before .before .if2 .taken in
     let n : c .before .before .before .before .magnitude .result ≡ natAbs x = c .before .before .before .before .magnitude .ensures ∙ ap natAbs b in
     rw (c .next-line .ensures, c .before .before .put-cell .ensures, n, v) (sym (cell-put (a .r) (a .cells .now) t s))
 
@@ -68,7 +69,7 @@ returns-2 c = let a = c .before .before .before .before .before .before .before 
     let x = a .r .last .x in
     let b = back x (c .before .before .before .before .before .before .struct-told .given .0 .1) in
     let t : isBelow 2048 x ≡ true = ap (isBelow 2048) (sym b) ∙ sym (c .before .before .before .before .is-below .ensures) ∙ c .before .before .before .if1 .taken in
-    let s : sound (lineCell (a .r)) ≡ false = ap sound (sym (c .before .before .before .before .before .line-cell .ensures)) ∙ sym (c .before .before .sound-cell .ensures) ∙ c .before .if2 .left in
+    let s : sound (lineCell (a .r)) ≡ false = ap sound (sym (c .before .before .before .before .before .line-cell .ensures)) ∙ sym (c .before .before .is-sound .ensures) ∙ c .before .if2 .left in
     ap (λ (q : Reader). state q (a .cells .now)) (c .break-line .ensures) ∙ sym (cell-damaged (a .r) (a .cells .now) t s)
 
 break-line-requires-2 : tie.Need-break-line-requires-2
@@ -87,7 +88,7 @@ take-cell-spec =
     (tie.spec
     line-cell-requires
     is-below-requires
-    sound-cell-requires
+    is-sound-requires
     magnitude-requires
     put-cell-requires
     next-line-requires

@@ -8,10 +8,11 @@ use mathlib.Core.List.{List}
 use lib.IntN.{ℤ, pos}
 use lib.Signed.{ltZ}
 use Rattle.word.proofs.Laws.{back}
-use Rattle.definition.specs.Encoding.{Extracted, extractInstruction, sound, Instruction, instruction}
-use Rattle.definition.specs.Computer.{core, ok}
+use Rattle.definition.specs.Encoding.{Extracted, extractInstruction, sound, soundInstruction, Instruction, instruction}
+use Rattle.definition.specs.Exec.{core, ok}
 use Rattle.definition.specs.Runtime.{orInstruction}
-use Rattle.encoding.proofs.Sound.{code}
+use Rattle.encoding.proofs.Rule.{both}
+use Rattle.encoding.proofs.Sound.{code, code-sound}
 use Rattle.runtime.proofs.Laws.{not-code, is-code, near}
 use borrow.Author.Needs.{needs}
 use Rattle.runtime.proofs.fetch.decoded.Statement.{statement}
@@ -34,19 +35,21 @@ cast-decode : tie.Need-cast-decode
 unfolding sound
 cast-decode c = let v = c .before .before .args .v in
     let b = back (v .tag) (c .before .struct-told .given .0 .1) in
-    rw b (code (v .tag) (rw b at (c .if1 .left)) (near (v .tag) (v .first) (v .second) (c .before .before .pre .0)) .whole)
+    rw b (code (v .tag) (rw b at (c .if1 .left)) (near (v .tag) (v .first) (v .second) (c .before .before .pre)) .whole)
 
 sub-decode : tie.Need-sub-decode
 unfolding sound
 sub-decode c = let v = c .before .before .args .v in
     let b = back (v .tag) (c .before .struct-told .given .0 .1) in
-    rw b (code (v .tag) (rw b at (c .if1 .left)) (near (v .tag) (v .first) (v .second) (c .before .before .pre .0)) .least)
+    rw b (code (v .tag) (rw b at (c .if1 .left)) (near (v .tag) (v .first) (v .second) (c .before .before .pre)) .least)
 
 decode-requires : tie.Need-decode-requires
-unfolding sound
+unfolding sound soundInstruction
 decode-requires c κs = let v = c .before .before .before .before .args .v in
     let b = back (v .tag) (c .before .before .before .struct-told .given .0 .1) in
-    (rw b (code (v .tag) (rw b at (c .before .before .if1 .left)) (near (v .tag) (v .first) (v .second) (c .before .before .before .before .pre .0)) .most), c .before .before .before .before .pre .1)
+    let h = rw b at (c .before .before .if1 .left) in
+    let s = c .before .before .before .before .pre in
+    (rw b (code (v .tag) h (near (v .tag) (v .first) (v .second) s) .most), rw b (both _ _ (code-sound (v .tag) (v .first) (v .second) h ∙ s) .0))
 
 returns-2 : tie.Need-returns-2
 unfolding extractInstruction orInstruction

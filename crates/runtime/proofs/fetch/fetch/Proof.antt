@@ -3,7 +3,7 @@ use native.Mathlib.Omega.{arith}
 use Rattle.definition.specs.declared.Cell.{Cell}
 use Rattle.definition.specs.Encoding.{sound, extractInstruction}
 use Rattle.definition.specs.Registers.{with-pc}
-use Rattle.definition.specs.Computer.{core}
+use Rattle.definition.specs.Exec.{core}
 use Rattle.definition.specs.Runtime.{orInstruction}
 use Prim.Native.Nat.{_+_, _<_}
 use Rattle.definition.specs.Memory.{cellCount}
@@ -27,7 +27,7 @@ get-cell-requires : tie.Need-get-cell-requires
 get-cell-requires c κs = search needs
 
 decoded-requires : tie.Need-decoded-requires
-decoded-requires c κs = let a = c .before .before .args in let h : a .s .pc < cellCount (a .cells .now) = omega arith in (ap sound (c .get-cell .ensures) ∙ c .before .before .pre .1 .0 (a .s .pc) h, c .before .before .pre .1 .1)
+decoded-requires c κs = let a = c .before .before .args in let h : a .s .pc < cellCount (a .cells .now) = omega arith in ap sound (c .get-cell .ensures) ∙ c .before .before .pre .1 (a .s .pc) h
 
 returns : tie.Need-returns
 returns c = let a = c .before .before .before .args in let l = a .cells .now in let h : a .s .pc < cellCount l = omega arith in

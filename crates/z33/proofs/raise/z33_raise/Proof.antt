@@ -24,13 +24,13 @@ use Rattle.runtime.proofs.commit.save_entry.Reads as save-entry-reads
 use Rattle.runtime.proofs.decide.decide.Reads as decide-reads
 use Rattle.runtime.proofs.entry.write_over.Reads as write-over-reads
 use Rattle.z33.proofs.raise.raising.Reads as raising-reads
-use Rattle.z33.proofs.run.state.Reads as state-reads
+use Rattle.z33.proofs.state.Reads as state-reads
 
 raise-check-requires : tie.Need-raise-check-requires
 raise-check-requires c κs = search needs
 
 state-requires : tie.Need-state-requires
-state-requires c κs = let a = c .before .before .before .before .before .before .args in let p = raise-passed (a .cells .now) (a .row .now) (a .code) (passed-by (c .before .before .before .raise-check .ensures) (c .before .if1 .taken)) .row-fits in (p .sixteen, (p .pc, p .sp))
+state-requires c κs = let a = c .before .before .before .before .before .before .args in let p = raise-passed (a .cells .now) (a .row .now) (a .code) (passed-by (c .before .before .before .raise-check .ensures) (c .before .if1 .taken)) .row-fits in (p .long, (p .pc, p .sp))
 
 cast-raising : tie.Need-cast-raising
 cast-raising c = let a = c .before .before .before .before .before .before .before .args in let p = raise-passed (a .cells .now) (a .row .now) (a .code) (passed-by (c .before .before .before .before .raise-check .ensures) (c .before .before .if1 .taken)) .code-most in omega arith
@@ -55,7 +55,7 @@ write-row-requires c κs = let a = c .before .before .before .before .before .be
     let f = raise-fits (a .cells .now) (a .row .now) (a .code) (c .before .before .before .before .before .before .before .before .before .before .before .before .before .decide .result) (p .cells-fit .most) h (c .before .before .before .before .before .before .before .before .before .before .before .before .if2 .taken) in
     let s = ap (λ (x : Console). x .start) (f .1) in let n = ap (λ (x : Console). x .count) (f .1) in let w = ap (λ (x : Console). x .written) (f .1) in
     let r = p .row-fits in let rs = r .start .1 in let rn = r .count .1 in let rw' = r .written .1 in
-    (r .sixteen, (f .0, (omega arith, (omega arith, omega arith))))
+    (r .long, (f .0, (omega arith, (omega arith, omega arith))))
 
 same-length : tie.Need-same-length
 same-length c = search needs

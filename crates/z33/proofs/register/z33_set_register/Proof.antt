@@ -1,4 +1,3 @@
--- `z33::register::z33_set_register` meets its contract.
 use mir.Facts.{toZ-ofZ}
 use borrow.Author.Needs.{needs}
 use Rattle.z33.proofs.register.z33_set_register.Statement.{statement}

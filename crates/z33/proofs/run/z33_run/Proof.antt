@@ -1,17 +1,17 @@
-use mathlib.Core.Path.{_≡_, sym, ap, _∙_}
+use mathlib.Core.Path.{_≡_, refl, sym, ap, _∙_}
 use native.Mathlib.Omega.{arith}
 use Prim.Native.Nat.{_<_, _^_}
 use Rattle.definition.specs.declared.Done.{Done}
 use Rattle.definition.specs.declared.Ran.{Ran}
 use Rattle.definition.specs.Calls.{called, lent, runCheck}
 use Rattle.definition.specs.Runtime.{run, machine}
-use Rattle.definition.specs.Computer.{core}
-use Rattle.definition.proofs.Row.{AcceptedMachine}
+use Rattle.definition.specs.Exec.{core}
+use Rattle.definition.specs.Accepted.{AcceptedMachine}
 use Rattle.runtime.specs.declared.State.{State}
 use Rattle.runtime.specs.Meaning.{machineAt}
 use Rattle.checks.proofs.Verdict.{passed-by, refused-by}
-use Rattle.refusals.proofs.Passed.{run-passed}
-use Rattle.z33.proofs.Laws.{run-accepted, left-accepted, run-answer, run-refused}
+use Rattle.definition.proofs.Row.{run-passed}
+use Rattle.z33.proofs.Laws.{on-budget, run-accepted, left-accepted, run-answer, run-refused}
 use borrow.Author.Needs.{needs}
 use Rattle.z33.proofs.run.z33_run.Statement.{statement}
 use Rattle.z33.proofs.run.z33_run.Tie as tie
@@ -20,13 +20,14 @@ use Rattle.z33.proofs.run.z33_run.Lts as lts
 use Rattle.computer.proofs.run.Reads as run-reads
 use Rattle.row.proofs.write_row.Reads as write-row-reads
 use Rattle.refusals.proofs.run_check.Reads as run-check-reads
-use Rattle.z33.proofs.run.state.Reads as state-reads
+use Rattle.z33.proofs.run.ran.Reads as ran-reads
+use Rattle.z33.proofs.state.Reads as state-reads
 
 run-check-requires : tie.Need-run-check-requires
 run-check-requires c κs = search needs
 
 state-requires : tie.Need-state-requires
-state-requires c κs = let a = c .before .before .before .before .before .before .before .before .before .before .args in let p = run-passed (lent (a .cells .now) (a .queue .now) (a .output .now) (a .row .now)) (passed-by (c .before .before .before .run-check .ensures) (c .before .if1 .taken)) .row-fits in (p .sixteen, (p .pc, p .sp))
+state-requires c κs = let a = c .before .before .before .before .before .before .before .before .before .before .args in let p = run-passed (lent (a .cells .now) (a .queue .now) (a .output .now) (a .row .now)) (passed-by (c .before .before .before .run-check .ensures) (c .before .if1 .taken)) .row-fits in (p .long, (p .pc, p .sp))
 
 run-requires : tie.Need-run-requires
 run-requires c κs = let a = c .before .before .before .before .before .before .before .before .before .before .before .before .before .before .args in rw (c .before .before .before .state .ensures) (run-accepted (a .cells .now) (a .queue .now) (a .output .now) (a .row .now) (passed-by (c .before .before .before .before .before .before .before .run-check .ensures) (c .before .before .before .before .before .if1 .taken)))
@@ -34,18 +35,12 @@ run-requires c κs = let a = c .before .before .before .before .before .before .
 write-row-requires : tie.Need-write-row-requires
 write-row-requires c κs = let a = c .before .before .before .before .before .before .before .before .before .before .before .before .before .before .before .before .before .before .before .before .before .before .args in let h = passed-by (c .before .before .before .before .before .before .before .before .before .before .before .before .before .before .before .run-check .ensures) (c .before .before .before .before .before .before .before .before .before .before .before .before .before .if1 .taken) in let f = rw (c .before .before .before .before .before .before .before .before .before .before .before .state .ensures) at (c .before .before .before .before .before .before .before .run .ensures) in
     let p = run-passed (lent (a .cells .now) (a .queue .now) (a .output .now) (a .row .now)) h .row-fits in
-    let x = left-accepted (a .cells .now) (a .queue .now) (a .output .now) (a .row .now) h (a .budget) _ _ (c .before .before .before .before .before .before .before .run .result) f in
+    let x = left-accepted (a .cells .now) (a .queue .now) (a .output .now) (a .row .now) h _ _ _ (c .before .before .before .before .before .before .before .run .result) f in
     let n = x .console-in in let q = n .few in let z = n .small in let s = n .start-in in let t = n .count-in in let w = n .written-in in
-    (p .sixteen, (x .cycles-in, (omega arith, (omega arith, omega arith))))
+    (p .long, (x .cycles-in, (omega arith, (omega arith, omega arith))))
 
-cast-t32 : tie.Need-cast-t32
-cast-t32 c = search needs
-
-cast-t33 : tie.Need-cast-t33
-cast-t33 c = search needs
-
-cast-t34 : tie.Need-cast-t34
-cast-t34 c = search needs
+ran-requires : tie.Need-ran-requires
+ran-requires c κs = search needs
 
 same-length : tie.Need-same-length
 same-length c = search needs
@@ -60,8 +55,10 @@ same-length-4 : tie.Need-same-length-4
 same-length-4 c = search needs
 
 returns : tie.Need-returns
-returns c = let a = c .before .before .before .before .before .before .before .before .before .before .before .before .before .before .before .before .before .before .before .before .before .before .before .before .before .before .before .args in let h = passed-by (c .before .before .before .before .before .before .before .before .before .before .before .before .before .before .before .before .before .before .before .before .run-check .ensures) (c .before .before .before .before .before .before .before .before .before .before .before .before .before .before .before .before .before .before .if1 .taken) in let f = rw (c .before .before .before .before .before .before .before .before .before .before .before .before .before .before .before .before .state .ensures) at (c .before .before .before .before .before .before .before .before .before .before .before .before .run .ensures) in
-    run-answer (a .cells .now) (a .queue .now) (a .output .now) (a .row .now) h (a .budget) _ _ (c .before .before .before .before .before .before .before .before .before .before .before .before .run .result) f _ (c .before .before .before .before .write-row .ensures)
+returns c = let a = c .before .before .before .before .before .before .before .before .before .before .before .before .before .before .before .before .before .before .before .before .before .before .before .before .before .args in let h = passed-by (c .before .before .before .before .before .before .before .before .before .before .before .before .before .before .before .before .before .before .run-check .ensures) (c .before .before .before .before .before .before .before .before .before .before .before .before .before .before .before .before .if1 .taken) in let f = rw (c .before .before .before .before .before .before .before .before .before .before .before .before .before .before .state .ensures) at (c .before .before .before .before .before .before .before .before .before .before .run .ensures) in let e = c .before .before .before .before .before .before .before .before .before .before .run .result in
+    let g = on-budget _ _ f (a .budget) refl in
+    let counted : c .ran .result .steps ≡ e .steps = ap (λ (r : Ran). r .steps) (c .ran .ensures) in
+    rw (c .ran .ensures) (run-answer (a .cells .now) (a .queue .now) (a .output .now) (a .row .now) h (a .budget) _ _ e g _ (c .before .before .write-row .ensures))
 
 same-length-5 : tie.Need-same-length-5
 same-length-5 c = search needs
@@ -87,9 +84,7 @@ z33-run-spec =
     state-requires
     run-requires
     write-row-requires
-    cast-t32
-    cast-t33
-    cast-t34
+    ran-requires
     same-length
     same-length-2
     same-length-3

@@ -1,0 +1,32 @@
+use Rattle.word.proofs.Laws.{back}
+use mathlib.Core.Path.{sym, ap}
+use Rattle.definition.specs.declared.Word.{Word}
+use Rattle.definition.specs.Exec.{core, orWord}
+use Rattle.arguments.specs.Taken.{tookWord}
+use borrow.Author.Needs.{needs}
+use Rattle.arguments.proofs.taken.or_word.Statement.{statement}
+use Rattle.arguments.proofs.taken.or_word.Tie as tie
+use Rattle.arguments.proofs.taken.or_word.Reads as reads
+use Rattle.arguments.proofs.taken.or_word.Lts as lts
+
+enum-known-w : tie.Need-enum-known-w
+enum-known-w c = search needs
+
+enum-told : tie.Need-enum-told
+enum-told c = search needs
+
+returns : tie.Need-returns
+unfolding orWord
+returns c =
+    let at-w = c .before in
+    let start = at-w .before .before in
+    λ l. let a = start .args in rw (back (at-w .w .given .0 .0) (c .known-told .given .0 .1)) (ap (λ (w : Word). tookWord (orWord w (a .error) (core l (a .s)))) (sym (at-w .w .given .1)))
+
+returns-2 : tie.Need-returns-2
+unfolding orWord
+returns-2 c =
+    let start = c .before .before in
+    λ l. let a = start .args in ap (λ (w : Word). tookWord (orWord w (a .error) (core l (a .s)))) (sym (c .enum-told .given .1))
+
+pub or-word-spec : {M : Type 1} → statement M
+or-word-spec = tie.close (tie.spec enum-known-w enum-told returns returns-2)

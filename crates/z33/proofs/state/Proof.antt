@@ -1,0 +1,25 @@
+use mathlib.Core.Path.{refl}
+use borrow.Author.Needs.{needs}
+use Rattle.z33.proofs.state.Statement.{statement}
+use Rattle.z33.proofs.state.Tie as tie
+use Rattle.z33.proofs.state.Reads as reads
+use Rattle.z33.proofs.state.Lts as lts
+use Rattle.row.proofs.console_state.Reads as console-state-reads
+use Rattle.row.proofs.number_at.Reads as number-at-reads
+use Rattle.row.proofs.registers.Reads as registers-reads
+
+registers-requires : tie.Need-registers-requires
+registers-requires c κs = search needs
+
+number-at-requires : tie.Need-number-at-requires
+number-at-requires c κs = search needs
+
+console-state-requires : tie.Need-console-state-requires
+console-state-requires c κs = search needs
+
+returns : tie.Need-returns
+returns c = rw (c .before .before .registers .ensures, c .before .number-at .ensures, c .console-state .ensures)
+
+pub state-spec : {M : Type 1} → statement M
+state-spec =
+    tie.close (tie.spec registers-requires number-at-requires console-state-requires returns)

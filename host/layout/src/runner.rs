@@ -1,0 +1,6 @@
+//! The runner's sizes and budget.
+
+pub const CELLS: usize = 2_048;
+pub const QUEUE: usize = 256;
+pub const OUTPUT: usize = 4_096;
+pub const BUDGET: u32 = 100_000;

@@ -1,0 +1,88 @@
+//! The structs of include/z33.h. `refusal` is 0 where the call was done; where it was refused, `place` says where and every other field is 0.
+
+#![allow(non_camel_case_types, reason = "the names are the header's")]
+
+/// A call done or refused.
+#[repr(C)]
+#[derive(Clone, Copy, Debug, Default, PartialEq, Eq)]
+pub struct z33_done {
+    /// 0, or the refusal's number.
+    pub refusal: u64,
+    /// Where what was refused is, or 0.
+    pub place: u64,
+}
+
+/// What a run answers.
+#[repr(C)]
+#[derive(Clone, Copy, Debug, Default, PartialEq, Eq)]
+pub struct z33_ran {
+    /// 0, or the refusal's number.
+    pub refusal: u64,
+    /// Where what was refused is, or 0.
+    pub place: u64,
+    /// Why the run ended.
+    pub stop: u64,
+    /// The exception's code of stop 2, the register of stop 5, or 0.
+    pub detail: u64,
+    /// How many steps were completed.
+    pub steps: u64,
+}
+
+/// What a drain answers.
+#[repr(C)]
+#[derive(Clone, Copy, Debug, Default, PartialEq, Eq)]
+pub struct z33_drained {
+    /// 0, or the refusal's number.
+    pub refusal: u64,
+    /// Where what was refused is, or 0.
+    pub place: u64,
+    /// How many bytes are at the front of the buffer.
+    pub count: u64,
+}
+
+/// How much a call wrote.
+#[repr(C)]
+#[derive(Clone, Copy, Debug, Default, PartialEq, Eq)]
+pub struct z33_counted {
+    /// 0, or the refusal's number.
+    pub refusal: u64,
+    /// Where what was refused is, or 0.
+    pub place: u64,
+    /// How many cells were made.
+    pub count: u64,
+}
+
+/// A cell that was read.
+#[repr(C)]
+#[derive(Clone, Copy, Debug, Default, PartialEq, Eq)]
+pub struct z33_cell {
+    /// 0, or the refusal's number.
+    pub refusal: u64,
+    /// Where what was refused is, or 0.
+    pub place: u64,
+    /// 0 for empty, 1 for a word, more for an instruction.
+    pub tag: i64,
+    /// The word, or the first operand's number.
+    pub first: i64,
+    /// The second operand's number.
+    pub second: i64,
+}
+
+/// What raise answers.
+#[repr(C)]
+#[derive(Clone, Copy, Debug, Default, PartialEq, Eq)]
+pub struct z33_raised {
+    /// 0, or the refusal's number.
+    pub refusal: u64,
+    /// Where what was refused is, or 0.
+    pub place: u64,
+    /// 0 where the exception was entered, or else 2 or 7.
+    pub stop: u64,
+    /// The code of stop 2, or 0.
+    pub detail: u64,
+}
+
+const _: () = {
+    assert!(size_of::<z33_done>() == 16 && size_of::<z33_ran>() == 40 && size_of::<z33_drained>() == 24);
+    assert!(size_of::<z33_counted>() == 24 && size_of::<z33_cell>() == 40 && size_of::<z33_raised>() == 32);
+};

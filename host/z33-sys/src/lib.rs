@@ -1,0 +1,12 @@
+//! include/z33.h in Rust: its structs and its functions, libz33.a linked. Crate `z33` is the one to use; this one is for what needs the
+//! numbers of C, and pointers.
+
+#![deny(missing_docs)]
+
+mod answers;
+mod functions;
+
+pub use answers::{z33_cell, z33_counted, z33_done, z33_drained, z33_raised, z33_ran};
+pub use functions::{
+    z33_assemble, z33_deliver, z33_drain, z33_exercise, z33_fresh, z33_load, z33_raise, z33_read_cell, z33_run, z33_set_register,
+};
