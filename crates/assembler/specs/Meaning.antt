@@ -9,7 +9,7 @@ use lib.Dec.{leb, eqb}
 use Rattle.definition.specs.declared.Done.{Done}
 use Rattle.expression.specs.declared.Value.{Value}
 use Rattle.expression.specs.Values.{values}
-use Rattle.expression.specs.Table.{held, beyond, beyondLine, kept, orElse, setting, nextLine, lookup, Usable}
+use Rattle.expression.specs.Table.{held, beyond, beyondLine, among, kept, orElse, setting, nextLine, lookup, Usable}
 use Rattle.assembly.specs.Grammar.{Line}
 use Rattle.assembly.specs.Reader.{Text, lines, broken, rows}
 use Rattle.assembly.specs.Assemble.{misses, exceeds}
@@ -31,18 +31,23 @@ later k e = extent (e .whole) (k + e .lines)
 
 -- The table after the lines before the one at a place, which is numbered k.
 pub record Collected (s T : List ℕ) (at k : ℕ) : Type 0 where
-  pub size : length T ≡ 515
+  pub size : length T ≡ 1539
   pub few : held T ≤ 256
   pub lines : held T ≤ k
   pub on : k ≤ at
   pub whole : beyond T ≡ 0
   pub start : beyondLine T ≡ 0
+  pub guessed : (n : List ℕ) → kept s T n ≡ among s T (held T) 0 n
   pub found : (n : List ℕ) → orElse (kept s T n) (setting (drop at s) k n) ≡ setting s 0 n
 
 -- After a line: the table goes on, or the rest of the text is left to a search.
 abbrev pub Taken : List ℕ → List ℕ → ℕ → ℕ → Bool → Type 0
 Taken s T at k true = Usable T × ((n : List ℕ) → lookup s T n ≡ setting s 0 n)
 Taken s T at k false = (to : ℕ) → suc at ≤ to → drop to s ≡ nextLine (drop at s) → Collected s T to (suc k)
+
+unfoldable pub isSome : Option ℕ → Bool
+isSome none = false
+isSome (some k) = true
 
 -- ---- 14 and 15
 

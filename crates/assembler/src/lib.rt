@@ -27,7 +27,7 @@ pub fn assemble(text: &[u8], image: &mut [i64]) -> Counted
     if image.len() % 3 != 0 {
         return answer(9, 0, 0);
     }
-    let mut table = [0usize; 515];
+    let mut table = [0usize; 1539];
     let e = lines::read_all(text, &table, image.len() / 3);
     let n = e.lines;
     if e.whole {

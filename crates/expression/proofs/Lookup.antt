@@ -3,18 +3,18 @@ use mathlib.Core.Path.{_≡_, refl, sym, ap, _∙_}
 use mathlib.Core.Bool.{Bool, true, false, cond, not, _&&_}
 use mathlib.Core.List.{List, [], _∷_}
 use mathlib.Core.Option.{Option, some, none}
-use Prim.Native.Nat.{ℕ, zero, suc, _+_, _-_, _≤_, _<_}
+use Prim.Native.Nat.{ℕ, zero, suc, _+_, _*_, _-_, _%_, _≤_, _<_}
 use native.Mathlib.Omega.{arith}
 use native.Mathlib.Numerals.{add-one}
 use lib.ListN.{length, drop, getD}
 use lib.Seq.{drop-cons}
 use lib.Dec.{eqb}
-use borrow.Author.Tests.{eq-eqb, ne-eqb}
+use borrow.Author.Tests.{eq-eqb, ne-eqb, lt-ltb, le-ltb}
 use Rattle.expression.specs.Reader.{head, tail, front, past, isLetter, isSpace, same}
 use Rattle.expression.proofs.Spans.{by-bool, past-length, tail-length}
 use Rattle.expression.proofs.Places.{tail-drop, front-on, front-off, letter-ends}
 use Rattle.expression.specs.Code.{Place}
-use Rattle.expression.specs.Table.{nameAt, isLabelled, sets, isInner, nextLine, settingIn, setting, beyond, beyondLine, nameOf, lineOf, among, kept, orElse, behind, lookup}
+use Rattle.expression.specs.Table.{nameAt, isLabelled, sets, isInner, nextLine, settingIn, setting, beyond, beyondLine, nameOf, lineOf, held, hashFrom, guess, isGuessed, among, kept, orElse, behind, lookup}
 
 one-more : (t u : List ℕ) → isLetter (head t) ≡ true → head t ≡ head u → same (front isLetter t) (front isLetter u) ≡ same (front isLetter (tail t)) (front isLetter (tail u))
 unfolding same
@@ -134,12 +134,49 @@ past-end (a ∷ l) (suc k) h = past-end l k (omega arith)
 pub setting-out : (s : List ℕ) (at k : ℕ) (n : List ℕ) → length s ≤ at → none ≡ setting (drop at s) k n
 setting-out s at k n h = rw (drop-past s at h) (setting-nil k n)
 
+-- ---- the number of a name
+
+pub hash-more : (s : List ℕ) (i h : ℕ) → isLetter (head (drop i s)) ≡ true → hashFrom ((h * 31 + head (drop i s)) % 1024) (nameAt s (i + 1)) ≡ hashFrom h (nameAt s i)
+unfolding hashFrom
+hash-more s i h l = rw (front-on isLetter letter-ends (drop i s) l, tail-drop s i)
+
+pub hash-stop : (s : List ℕ) (i h : ℕ) → isLetter (head (drop i s)) ≡ false → h ≡ hashFrom h (nameAt s i)
+unfolding hashFrom
+hash-stop s i h l = rw (front-off isLetter letter-ends (drop i s) l)
+
 -- ---- the table
 
 module _ (s T n : List ℕ) where
-  pub among-all : (m : ℕ) → m ≡ getD T 0 0 → among s T (m - 0) 0 n ≡ kept s T n
-  unfolding kept
+  pub among-all : (m : ℕ) → m ≡ getD T 0 0 → among s T (m - 0) 0 n ≡ among s T (getD T 0 0) 0 n
   among-all m e = let z : m - 0 ≡ getD T 0 0 = omega arith in ap (λ (j : ℕ). among s T j 0 n) z
+
+  pub kept-guess : guess T n < held T → same (nameAt s (nameOf T (guess T n))) n ≡ true → some (lineOf T (guess T n)) ≡ kept s T n
+  unfolding kept isGuessed
+  kept-guess h e = rw (lt-ltb (guess T n) (held T) h, e)
+
+  pub kept-wrong : guess T n < held T → same (nameAt s (nameOf T (guess T n))) n ≡ false → among s T (held T) 0 n ≡ kept s T n
+  unfolding kept isGuessed
+  kept-wrong h e = rw (lt-ltb (guess T n) (held T) h, e)
+
+  pub kept-none : held T ≤ guess T n → among s T (held T) 0 n ≡ kept s T n
+  unfolding kept isGuessed
+  kept-none h = rw (le-ltb (guess T n) (held T) h)
+
+  module _ (g m : ℕ) (is-g : g ≡ guess T n) (is-m : m ≡ held T) where
+    guess-below : g < m → guess T n < held T
+    guess-below h = omega arith
+
+    guess-name : (a : ℕ) (r v : Bool) → a ≡ nameOf T g → r ≡ same (nameAt s a) n → r ≡ v → same (nameAt s (nameOf T (guess T n))) n ≡ v
+    guess-name a r v e f h = ap (λ (x : ℕ). same (nameAt s x) n) (sym (e ∙ ap (nameOf T) is-g)) ∙ (sym f ∙ h)
+
+    pub found-guess : (a b : ℕ) (r : Bool) → g < m → a ≡ nameOf T g → r ≡ same (nameAt s a) n → r ≡ true → b ≡ lineOf T g → some b ≡ kept s T n
+    found-guess a b r h e f i k = ap some (k ∙ ap (lineOf T) is-g) ∙ kept-guess (guess-below h) (guess-name a r true e f i)
+
+    pub wrong-guess : (a : ℕ) (r : Bool) (o : Option ℕ) → g < m → a ≡ nameOf T g → r ≡ same (nameAt s a) n → r ≡ false → o ≡ among s T (held T) 0 n → o ≡ kept s T n
+    wrong-guess a r o h e f i k = k ∙ kept-wrong (guess-below h) (guess-name a r false e f i)
+
+    pub no-guess : (o : Option ℕ) → m ≤ g → o ≡ among s T (held T) 0 n → o ≡ kept s T n
+    no-guess o h k = k ∙ kept-none (omega arith)
 
   pub among-here : (k m : ℕ) → k < m → same (nameAt s (nameOf T k)) n ≡ true → some (lineOf T k) ≡ among s T (m - k) k n
   unfolding among

@@ -2,8 +2,8 @@
 use mathlib.Core.Bool.{Bool, true, false, cond, not, _&&_}
 use mathlib.Core.List.{List, [], _∷_}
 use mathlib.Core.Option.{Option, some, none}
-use Prim.Native.Nat.{ℕ, zero, suc, _+_, _*_, _≤_}
-use lib.Dec.{eqb}
+use Prim.Native.Nat.{ℕ, zero, suc, _+_, _*_, _%_, _≤_}
+use lib.Dec.{eqb, ltb}
 use lib.ListN.{length, drop, getD}
 use Rattle.expression.specs.declared.table.Found.{Found}
 use Rattle.expression.specs.declared.table.Found.the-variants as F
@@ -37,7 +37,7 @@ unfoldable pub setting : List ℕ → ℕ → List ℕ → Option ℕ
 setting t k n = settingIn (length t) t k n
 
 -- ---- the table: how many labels it holds; where the text goes on whose labels it does not hold, 0 if it holds all, and the number of the line
--- there; then, for each, where in the text its name stands and the number of the line that sets it
+-- there; then, for each, where in the text its name stands and the number of the line that sets it; then guesses, by a number of the name
 
 abbrev pub held : List ℕ → ℕ
 held T = getD T 0 0
@@ -59,8 +59,19 @@ unfoldable pub among : List ℕ → List ℕ → ℕ → ℕ → List ℕ → Op
 among s T zero k n = none
 among s T (suc j) k n = cond (same (nameAt s (nameOf T k)) n) (some (lineOf T k)) (among s T j (suc k) n)
 
+-- A number for a name, and the label of the table that was last put under it: most often the right one.
+unfoldable pub hashFrom : ℕ → List ℕ → ℕ
+hashFrom h [] = h
+hashFrom h (b ∷ n) = hashFrom ((h * 31 + b) % 1024) n
+
+abbrev pub guess : List ℕ → List ℕ → ℕ
+guess T n = getD T (515 + hashFrom 0 n) 0
+
+unfoldable pub isGuessed : List ℕ → List ℕ → List ℕ → Bool
+isGuessed s T n = ltb (guess T n) (held T) && same (nameAt s (nameOf T (guess T n))) n
+
 unfoldable pub kept : List ℕ → List ℕ → List ℕ → Option ℕ
-kept s T n = among s T (held T) 0 n
+kept s T n = cond (isGuessed s T n) (some (lineOf T (guess T n))) (among s T (held T) 0 n)
 
 unfoldable pub orElse : Option ℕ → Option ℕ → Option ℕ
 orElse none o = o

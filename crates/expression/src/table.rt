@@ -8,7 +8,7 @@ ghost use Prim.Native.Nat.{_+_, _≤_, _<_};
 ghost use lib.ListN.{length, drop, getD};
 ghost use Rattle.expression.specs.Reader.{same, past};
 ghost use Rattle.expression.specs.Code.{Place};
-ghost use Rattle.expression.specs.Table.{nameAt, isLabelled, sets, isInner, nextLine, setting, kept, behind, lookup, placeFound, Usable};
+ghost use Rattle.expression.specs.Table.{nameAt, isLabelled, sets, isInner, nextLine, setting, held, hashFrom, among, kept, behind, lookup, placeFound, Usable};
 
 pub enum Found {
     At(usize),
@@ -109,10 +109,23 @@ pub fn entry(labels: &[usize], i: usize) -> usize
     if i < labels.len() { labels[i] } else { 0 }
 }
 
-// The line that sets a label, among those that the table holds.
-pub fn find_kept(s: &[u8], labels: &[usize], name: usize) -> Found
+// A number of the name at a place.
+pub fn hash(s: &[u8], at: usize) -> usize
+    ensures { λ r. ⌜ (r ≡ hashFrom 0 (nameAt (now (s .entry)) at)) × (r < 1024) ⌝ }
+{
+    let mut h: usize = 0;
+    let mut i = at;
+    while is_letter(peek(s, i)) {
+        h = (h * 31 + peek(s, i) as usize) % 1024;
+        i += 1;
+    }
+    h
+}
+
+// The line that sets a label, found by going through those that the table holds.
+pub fn find_among(s: &[u8], labels: &[usize], name: usize) -> Found
     requires { ⌜ Usable (now labels) ⌝ }
-    ensures { λ r. ⌜ placeFound r ≡ kept (now (s .entry)) (now (labels .entry)) (nameAt (now (s .entry)) name) ⌝ }
+    ensures { λ r. ⌜ placeFound r ≡ among (now (s .entry)) (now (labels .entry)) (held (now (labels .entry))) 0 (nameAt (now (s .entry)) name) ⌝ }
 {
     let n = entry(labels, 0);
     let mut k: usize = 0;
@@ -123,6 +136,22 @@ pub fn find_kept(s: &[u8], labels: &[usize], name: usize) -> Found
         k += 1;
     }
     Found::Nowhere
+}
+
+// The line that sets a label, among those that the table holds: first the guess.
+pub fn find_kept(s: &[u8], labels: &[usize], name: usize) -> Found
+    requires { ⌜ Usable (now labels) ⌝ }
+    ensures { λ r. ⌜ placeFound r ≡ kept (now (s .entry)) (now (labels .entry)) (nameAt (now (s .entry)) name) ⌝ }
+{
+    let h = hash(s, name);
+    let g = entry(labels, 515 + h);
+    if g < entry(labels, 0) {
+        if same_name(s, entry(labels, 3 + 2 * g), name) {
+            return Found::At(entry(labels, 4 + 2 * g));
+        }
+        return find_among(s, labels, name);
+    }
+    find_among(s, labels, name)
 }
 
 // The same, in the text whose labels the table does not hold.
