@@ -127,7 +127,10 @@ enum {
     Z33_REFUSAL_ADDRESS = 8,      /* the cell, or the image's start, is outside the cells */
     Z33_REFUSAL_IMAGE = 9,        /* no whole cells, past the end, or with a damaged cell */
     Z33_REFUSAL_REGISTER = 10,    /* not a, b, pc or sp; or no address for pc or sp */
-    Z33_REFUSAL_CODE = 11         /* not 0 to 5 */
+    Z33_REFUSAL_CODE = 11,        /* not 0 to 5 */
+    Z33_REFUSAL_TEXT = 13,        /* place: the line outside the grammar, with round brackets over 32 deep, or past the image */
+    Z33_REFUSAL_LABEL = 14,       /* place: the line whose label is missing, set again or beyond 256 */
+    Z33_REFUSAL_VALUE = 15        /* place: the line with a value out of range */
 };
 
 typedef struct { uint64_t refusal, place; } z33_done;
@@ -165,6 +168,10 @@ z33_done z33_set_register(int64_t *row, size_t row_len, uint64_t reg, int64_t wo
 
 /* Enters the exception of a code 0 to 5, for one cycle; or stop 2 or 7, and then nothing has changed. */
 z33_raised z33_raise(int64_t *cells, size_t cells_len, int64_t *row, size_t row_len, uint64_t code);
+
+/* A program written as text, into the front of the image: one cell a line, the room behind is kept. count is of cells; place is the line,
+ * from 1. Refusals: 9 the image is no whole number of cells, then 13 to 15, each with its lowest line. */
+z33_counted z33_assemble(const uint8_t *text, size_t text_len, int64_t *image, size_t image_len);
 
 /* Fills an image with sound instructions drawn from a seed; count is of cells. Refusal 9: the image is no whole number of cells. */
 z33_counted z33_exercise(int64_t *image, size_t image_len, uint64_t seed);

@@ -70,6 +70,9 @@ IS(Z33_REFUSAL_ADDRESS, 8);
 IS(Z33_REFUSAL_IMAGE, 9);
 IS(Z33_REFUSAL_REGISTER, 10);
 IS(Z33_REFUSAL_CODE, 11);
+IS(Z33_REFUSAL_TEXT, 13);
+IS(Z33_REFUSAL_LABEL, 14);
+IS(Z33_REFUSAL_VALUE, 15);
 
 /* The answers: numbers of 64 bits one behind the other. */
 IS(sizeof(z33_done), 2 * 8);

@@ -68,6 +68,20 @@ static void other_calls(void) {
     due(z33_exercise(made, 5, 0).refusal == 9, "five numbers were taken for cells");
 }
 
+/* The worked run's two cells, written as text. */
+static void as_text(void) {
+    static const char text[] = "add 5, %a\nreset\n";
+    int64_t image[9] = {7, 7, 7, 7, 7, 7, 7, 7, 7};
+    z33_counted counted = z33_assemble((const uint8_t *)text, sizeof text - 1, image, 9);
+    due(counted.refusal == 0 && counted.place == 0 && counted.count == 2, "the text was refused");
+    due(image[0] == 202 && image[1] == 5 && image[2] == 0, "the first line is not add 5, %a");
+    due(image[3] == 20702 && image[4] == 0 && image[5] == 0, "the second line is not reset");
+    due(image[6] == 7 && image[7] == 7 && image[8] == 7, "the room behind has changed");
+    counted = z33_assemble((const uint8_t *)text, sizeof text - 1, image, 3);
+    due(counted.refusal == Z33_REFUSAL_TEXT && counted.place == 2 && counted.count == 0 && image[0] == 202, "one cell for two lines");
+    due(z33_assemble(NULL, 0, NULL, 0).refusal == 0, "nothing into nothing");
+}
+
 static void null_is_refused(void) {
     due(z33_fresh(NULL, 0, NULL, 0).refusal == Z33_REFUSAL_CELLS, "fresh without cells");
     due(z33_fresh(cells, NUMBERS, NULL, 0).refusal == Z33_REFUSAL_ROW, "fresh without a row");
@@ -97,6 +111,7 @@ static void null_is_taken(void) {
 int main(void) {
     worked_run();
     other_calls();
+    as_text();
     null_is_refused();
     null_is_taken();
     return 0;

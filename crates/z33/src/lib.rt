@@ -17,6 +17,7 @@ pub mod raise;
 pub mod register;
 pub mod run;
 pub mod serial;
+pub mod text;
 
 // The machine in an accepted row.
 fn state(row: &[i64]) -> State

@@ -15,5 +15,8 @@ pub const ADDRESS: u64 = 8;
 pub const IMAGE: u64 = 9;
 pub const REGISTER: u64 = 10;
 pub const CODE: u64 = 11;
+pub const TEXT: u64 = 13;
+pub const LABEL: u64 = 14;
+pub const VALUE: u64 = 15;
 /// The runner's. Place: the line.
 pub const LINE: u64 = 12;

@@ -73,6 +73,11 @@ pub fn raise<'a>(
     unsafe { c::z33_raise(cells, cells_len, row, row_len, code) }
 }
 
+pub fn assemble<'a>(text: impl Into<Option<&'a [u8]>>, image: impl Into<Option<&'a mut [i64]>>) -> Counted {
+    let ((text, text_len), (image, image_len)) = (show(text), lend(image));
+    unsafe { c::z33_assemble(text, text_len, image, image_len) }
+}
+
 pub fn exercise<'a>(image: impl Into<Option<&'a mut [i64]>>, seed: u64) -> Counted {
     let (image, image_len) = lend(image);
     unsafe { c::z33_exercise(image, image_len, seed) }

@@ -64,6 +64,9 @@ unsafe extern "C" {
         code: u64,
     ) -> z33_raised;
 
+    /// Makes cells of a program written as text, one a line, at the front of the image.
+    pub fn z33_assemble(text: *const u8, text_len: usize, image: *mut i64, image_len: usize) -> z33_counted;
+
     /// Fills an image with sound instructions drawn from a seed.
     pub fn z33_exercise(image: *mut i64, image_len: usize, seed: u64) -> z33_counted;
 }

@@ -79,6 +79,13 @@ pub fn load(cells: &mut [i64], image: &[i64], start: u64) -> Result<(), Refusal>
     Refusal::check(done.refusal, done.place)
 }
 
+/// Makes cells of a program written as text, one a line, at the front of the image, and tells how many those were.
+pub fn assemble(text: &[u8], image: &mut [i64]) -> Result<u64, Refusal> {
+    let counted = unsafe { z33_sys::z33_assemble(text.as_ptr(), text.len(), image.as_mut_ptr(), image.len()) };
+    Refusal::check(counted.refusal, counted.place)?;
+    Ok(counted.count)
+}
+
 /// Fills an image with sound instructions drawn from a seed, and tells how many cells that were.
 pub fn exercise(image: &mut [i64], seed: u64) -> Result<u64, Refusal> {
     let counted = unsafe { z33_sys::z33_exercise(image.as_mut_ptr(), image.len(), seed) };

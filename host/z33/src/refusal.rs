@@ -33,10 +33,25 @@ pub enum Refusal {
     Register,
     /// 11: the code is none of an exception.
     Code,
+    /// 13: a line of a program is outside the grammar, has round brackets over 32 deep, or has no cell left in the image.
+    Text {
+        /// The lowest such line, from 1.
+        line: u64,
+    },
+    /// 14: a line of a program uses a label that is set nowhere, sets one again, or sets the 257th.
+    Label {
+        /// The lowest such line, from 1.
+        line: u64,
+    },
+    /// 15: a line of a program has a value out of range.
+    Value {
+        /// The lowest such line, from 1.
+        line: u64,
+    },
 }
 
 impl Refusal {
-    /// Its number, 1 to 11.
+    /// Its number, 1 to 11 or 13 to 15.
     pub fn number(self) -> u64 {
         match self {
             Refusal::Cells => refusal::CELLS,
@@ -50,6 +65,9 @@ impl Refusal {
             Refusal::Image => refusal::IMAGE,
             Refusal::Register => refusal::REGISTER,
             Refusal::Code => refusal::CODE,
+            Refusal::Text { .. } => refusal::TEXT,
+            Refusal::Label { .. } => refusal::LABEL,
+            Refusal::Value { .. } => refusal::VALUE,
         }
     }
 
@@ -68,7 +86,10 @@ impl Refusal {
             refusal::IMAGE => Refusal::Image,
             refusal::REGISTER => Refusal::Register,
             refusal::CODE => Refusal::Code,
-            _ => unreachable!("the library is proved to refuse with 1 to 11, and refused with {number}"),
+            refusal::TEXT => Refusal::Text { line: place },
+            refusal::LABEL => Refusal::Label { line: place },
+            refusal::VALUE => Refusal::Value { line: place },
+            _ => unreachable!("the library is proved to refuse with 1 to 11 and 13 to 15, and refused with {number}"),
         })
     }
 }
@@ -90,6 +111,9 @@ impl fmt::Display for Refusal {
             }
             Refusal::Register => write!(f, "the register cannot be set to that"),
             Refusal::Code => write!(f, "no exception has that code"),
+            Refusal::Text { line } => write!(f, "line {line} of the program cannot be read, or the image has no cell for it"),
+            Refusal::Label { line } => write!(f, "line {line} of the program has a label that is missing, set again or one too many"),
+            Refusal::Value { line } => write!(f, "line {line} of the program has a value out of range"),
         }
     }
 }

@@ -1,0 +1,5 @@
+pub mod Rows
+pub mod Collect
+pub mod Cells
+pub mod Judged
+pub mod Whole

@@ -1,0 +1,3 @@
+pub mod Names
+pub mod Forms
+pub mod Code
