@@ -98,13 +98,7 @@ fn finish(
 
 // Computer::step. `saved` is m wherever stop 7 could come. An instruction that leaves nothing else to do is the usual case, and goes first;
 // with a cell to write and without are apart, so that the one without carries no cell (docs/SPEED.md).
-pub fn step(
-    cells: &mut [i64],
-    queue: &[u8],
-    output: &mut [u8],
-    saved: State,
-    m: State,
-) -> Stepped
+pub fn step(cells: &mut [i64], queue: &[u8], output: &mut [u8], saved: State, m: State) -> Stepped
     requires { do ⌜ AcceptedMachine (machineAt (now cells) (now queue) (now output) m) ⌝; ⌜ (NEAR ≤ m .cycles → saved ≡ m) ⌝ }
     ensures { λ r. ⌜ outcomeAt (r .completed) (r .stop) (r .detail) (machineAt (now (cells .exit)) (now (queue .entry)) (now (output .exit)) (r .m)) ≡ step (machineAt (now (cells .entry)) (now (queue .entry)) (now (output .entry)) m) ⌝ }
 {

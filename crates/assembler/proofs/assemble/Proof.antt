@@ -5,7 +5,6 @@ use lib.ListN.{length, replicate}
 use Rattle.expression.specs.Table.{lookup}
 use Rattle.assembler.specs.declared.lines.Extent.{Extent}
 use Rattle.assembler.proofs.Whole.{shape-room, call-ragged, call-broken, count-room, is-whole, call-refused, call-cells}
--- `assembler::assemble` meets its contract.
 use borrow.Author.Needs.{needs}
 use Rattle.assembler.proofs.assemble.Statement.{statement}
 use Rattle.assembler.proofs.assemble.Tie as tie

@@ -1,4 +1,3 @@
--- `exercise::cell_of` meets its contract.
 use mathlib.Core.Path.{_≡_, refl}
 use Prim.Native.Nat.{_/_, _%_}
 use native.Mathlib.Omega.{arith}
@@ -11,8 +10,6 @@ use Rattle.word.proofs.Laws.{back}
 use Rattle.exercise.specs.Exercise.{cellOf, number}
 use Rattle.exercise.proofs.cell_of.Statement.{statement}
 use Rattle.exercise.proofs.cell_of.Tie as tie
-
--- `exercise::cell_of` meets its contract.
 
 form-of-requires : tie.Need-form-of-requires
 form-of-requires c κs = search needs

@@ -1,4 +1,3 @@
--- `exercise::draw` meets its contract.
 use mathlib.Core.Path.{refl}
 use borrow.Author.Needs.{needs}
 use Rattle.exercise.specs.Exercise.{draw}

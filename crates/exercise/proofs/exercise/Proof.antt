@@ -1,4 +1,3 @@
--- `exercise::exercise` meets its contract.
 use mathlib.Core.Path.{refl, sym, _∙_}
 use borrow.Author.Needs.{needs}
 use borrow.Author.Tests.{eqb-true}

@@ -1,4 +1,3 @@
--- `exercise::fill` meets its contract.
 use mathlib.Core.List.{append-nil, _++_}
 use mathlib.Core.Path.{refl, sym, _∙_, ap, _≡_}
 use Prim.Native.Nat.{ℕ, suc, _*_, _-_, _/_, _≤_}
@@ -12,8 +11,6 @@ use Rattle.exercise.specs.Exercise.{cellFrom, thirdState, made}
 use Rattle.exercise.proofs.Made.{made-more, cell-drawn}
 use Rattle.exercise.proofs.fill.Statement.{statement}
 use Rattle.exercise.proofs.fill.Tie as tie
-
--- `exercise::fill` meets its contract.
 
 abbrev Inv-loop : tie.InvT-loop
 Inv-loop table image₀ seed count state₀ n₀ image state n = (n ≤ count) × ((length image ≡ length image₀) × (take (3 * n) image ++ made (count - n) state ≡ made count seed))

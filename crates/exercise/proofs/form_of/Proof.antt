@@ -1,4 +1,3 @@
--- `exercise::form_of` meets its contract.
 use mathlib.Core.List.{List}
 use mathlib.Core.Path.{ap}
 use Prim.Native.Nat.{ℕ, _%_}

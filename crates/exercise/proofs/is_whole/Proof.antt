@@ -1,4 +1,3 @@
--- `exercise::is_whole` meets its contract.
 use mathlib.Core.Path.{refl}
 use Rattle.exercise.proofs.is_whole.Statement.{statement}
 use Rattle.exercise.proofs.is_whole.Tie as tie

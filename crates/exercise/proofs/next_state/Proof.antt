@@ -1,4 +1,3 @@
--- `exercise::next_state` meets its contract.
 use native.Mathlib.Omega.{arith}
 use borrow.Author.Needs.{needs}
 use Rattle.exercise.specs.Exercise.{nextState}

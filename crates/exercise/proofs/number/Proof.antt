@@ -1,4 +1,3 @@
--- `exercise::number` meets its contract.
 use mathlib.Core.Bool.{true, false}
 use mathlib.Core.Path.{refl, _≡_, sym, _∙_}
 use mir.Facts.{toZ-ofZ}

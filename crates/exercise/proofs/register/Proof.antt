@@ -1,4 +1,3 @@
--- `exercise::register` meets its contract.
 use mathlib.Core.Path.{refl, sym, _∙_}
 use borrow.Author.Needs.{needs}
 use Rattle.exercise.specs.Exercise.{register}

@@ -2,7 +2,6 @@ use mathlib.Core.Path.{_∙_, sym}
 use native.Mathlib.Numerals.{add-one}
 use borrow.Author.Tests.{ne-eqb}
 use Rattle.assembler.specs.Meaning.{firstBeyond}
--- `assembler::judge::first_beyond` meets its contract.
 use borrow.Author.Needs.{needs}
 use Rattle.assembler.proofs.judge.first_beyond.Statement.{statement}
 use Rattle.assembler.proofs.judge.first_beyond.Tie as tie

@@ -1,5 +1,4 @@
 use Rattle.assembler.specs.Meaning.{isAt}
--- `assembler::judge::is_at` meets its contract.
 use borrow.Author.Needs.{needs}
 use Rattle.assembler.proofs.judge.is_at.Statement.{statement}
 use Rattle.assembler.proofs.judge.is_at.Tie as tie

@@ -7,7 +7,6 @@ use Rattle.line.specs.Code.{lineReadTold, lineIn, lineTold}
 use Rattle.assembler.specs.Meaning.{textLines, judge}
 use Rattle.assembler.proofs.Rows.{Walk, walk-start, walk-end, walk-not, walk-row}
 use Rattle.assembler.proofs.Judged.{one-or-none, pass-fails, pass-next, pass-end, count-told}
--- `assembler::judge::judge` meets its contract.
 use borrow.Author.Needs.{needs}
 use Rattle.assembler.proofs.judge.judge.Statement.{statement}
 use Rattle.assembler.proofs.judge.judge.Tie as tie

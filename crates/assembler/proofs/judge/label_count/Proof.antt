@@ -1,4 +1,3 @@
--- `assembler::judge::label_count` meets its contract.
 use borrow.Author.Needs.{needs}
 use Rattle.assembler.proofs.judge.label_count.Statement.{statement}
 use Rattle.assembler.proofs.judge.label_count.Tie as tie

@@ -1,6 +1,5 @@
 use Rattle.expression.specs.Table.{lookup, placeFound}
 use Rattle.assembler.proofs.Judged.{fails-beyond, fails-again, fails-none}
--- `assembler::judge::label_fails` meets its contract.
 use borrow.Author.Needs.{needs}
 use Rattle.assembler.proofs.judge.label_fails.Statement.{statement}
 use Rattle.assembler.proofs.judge.label_fails.Tie as tie

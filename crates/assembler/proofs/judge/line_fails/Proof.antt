@@ -1,4 +1,3 @@
--- `assembler::judge::line_fails` meets its contract.
 use borrow.Author.Needs.{needs}
 use Rattle.assembler.proofs.judge.line_fails.Statement.{statement}
 use Rattle.assembler.proofs.judge.line_fails.Tie as tie

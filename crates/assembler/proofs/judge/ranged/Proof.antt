@@ -1,6 +1,5 @@
 use Rattle.assembler.specs.Meaning.{ranged}
 use Rattle.assembler.proofs.Judged.{ranged-some}
--- `assembler::judge::ranged` meets its contract.
 use borrow.Author.Needs.{needs}
 use Rattle.assembler.proofs.judge.ranged.Statement.{statement}
 use Rattle.assembler.proofs.judge.ranged.Tie as tie

@@ -1,6 +1,5 @@
 use native.Mathlib.Omega.{arith}
 use lib.ListN.{length-set}
--- `assembler::labels::add_label` meets its contract.
 use borrow.Author.Needs.{needs}
 use Rattle.assembler.proofs.labels.add_label.Statement.{statement}
 use Rattle.assembler.proofs.labels.add_label.Tie as tie

@@ -7,7 +7,6 @@ use mathlib.Core.List.{List}
 use Rattle.assembler.specs.Meaning.{Collected, Taken}
 use Rattle.assembler.proofs.Collect.{collected-none, all-usable, all-found}
 use Rattle.assembler.proofs.Whole.{lookup-is}
--- `assembler::labels::collect` meets its contract.
 use borrow.Author.Needs.{needs}
 use Rattle.assembler.proofs.labels.collect.Statement.{statement}
 use Rattle.assembler.proofs.labels.collect.Tie as tie

@@ -1,5 +1,4 @@
 use Rattle.assembler.specs.Meaning.{isSome}
--- `assembler::labels::is_known` meets its contract.
 use borrow.Author.Needs.{needs}
 use Rattle.assembler.proofs.labels.is_known.Statement.{statement}
 use Rattle.assembler.proofs.labels.is_known.Tie as tie

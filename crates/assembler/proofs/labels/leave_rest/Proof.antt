@@ -1,4 +1,3 @@
--- `assembler::labels::leave_rest` meets its contract.
 use borrow.Author.Needs.{needs}
 use Rattle.assembler.proofs.labels.leave_rest.Statement.{statement}
 use Rattle.assembler.proofs.labels.leave_rest.Tie as tie

@@ -3,7 +3,6 @@ use lib.ListN.{getD}
 use native.Mathlib.Omega.{arith}
 use Rattle.expression.specs.Table.{placeFound}
 use Rattle.assembler.proofs.Collect.{skip-line, again-line, add-line, leave-line, all-usable}
--- `assembler::labels::take_label` meets its contract.
 use borrow.Author.Needs.{needs}
 use Rattle.assembler.proofs.labels.take_label.Statement.{statement}
 use Rattle.assembler.proofs.labels.take_label.Tie as tie

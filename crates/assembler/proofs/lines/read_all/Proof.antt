@@ -9,7 +9,6 @@ use Rattle.line.specs.Code.{lineReadTold, lineIn, lineTold}
 use mathlib.Core.Path.{subst}
 use Rattle.assembler.specs.Meaning.{shape, later}
 use Rattle.assembler.proofs.Rows.{row-ahead, room-more, all-start, all-end, all-full, all-broken, all-next}
--- `assembler::lines::read_all` meets its contract.
 use borrow.Author.Needs.{needs}
 use Rattle.assembler.proofs.lines.read_all.Statement.{statement}
 use Rattle.assembler.proofs.lines.read_all.Tie as tie

@@ -5,7 +5,6 @@ use Rattle.definition.specs.Word.{addressOf}
 use lib.IntN.{ℤ}
 use Rattle.word.proofs.Laws.{back}
 use Rattle.assembler.proofs.Cells.{exceeds-by, exceeds-direct}
--- `assembler::values::arg_exceeds` meets its contract.
 use borrow.Author.Needs.{needs}
 use Rattle.assembler.proofs.values.arg_exceeds.Statement.{statement}
 use Rattle.assembler.proofs.values.arg_exceeds.Tie as tie

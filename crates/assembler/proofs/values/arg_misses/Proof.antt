@@ -1,7 +1,6 @@
 use mathlib.Core.Path.{_∙_, ap}
 use mathlib.Core.Bool.{Bool, _&&_}
 use Rattle.assembler.proofs.Cells.{misses-by}
--- `assembler::values::arg_misses` meets its contract.
 use borrow.Author.Needs.{needs}
 use Rattle.assembler.proofs.values.arg_misses.Statement.{statement}
 use Rattle.assembler.proofs.values.arg_misses.Tie as tie

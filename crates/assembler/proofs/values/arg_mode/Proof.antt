@@ -1,6 +1,5 @@
 use native.Mathlib.Omega.{arith}
 use Rattle.assembler.proofs.Cells.{mode-small, mode-large}
--- `assembler::values::arg_mode` meets its contract.
 use borrow.Author.Needs.{needs}
 use Rattle.assembler.proofs.values.arg_mode.Statement.{statement}
 use Rattle.assembler.proofs.values.arg_mode.Tie as tie

@@ -3,7 +3,6 @@ use mathlib.Core.Bool.{Bool, cond}
 use lib.IntN.{pos}
 use Rattle.word.proofs.Laws.{back}
 use Rattle.assembler.proofs.Cells.{number-is}
--- `assembler::values::arg_number` meets its contract.
 use borrow.Author.Needs.{needs}
 use Rattle.assembler.proofs.values.arg_number.Statement.{statement}
 use Rattle.assembler.proofs.values.arg_number.Tie as tie

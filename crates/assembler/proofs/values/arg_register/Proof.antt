@@ -2,7 +2,6 @@ use mathlib.Core.Path.{_∙_, ap, sym}
 use mathlib.Core.Bool.{Bool, cond}
 use native.Mathlib.Omega.{arith}
 use Rattle.assembler.proofs.Cells.{register-is}
--- `assembler::values::arg_register` meets its contract.
 use borrow.Author.Needs.{needs}
 use Rattle.assembler.proofs.values.arg_register.Statement.{statement}
 use Rattle.assembler.proofs.values.arg_register.Tie as tie

@@ -4,7 +4,6 @@ use Rattle.word.proofs.Laws.{back}
 use mathlib.Core.Path.{_∙_, ap, sym}
 use native.Mathlib.Omega.{arith}
 use Rattle.assembler.proofs.Cells.{cell-word, cell-code}
--- `assembler::values::body_cell` meets its contract.
 use borrow.Author.Needs.{needs}
 use Rattle.assembler.proofs.values.body_cell.Statement.{statement}
 use Rattle.assembler.proofs.values.body_cell.Tie as tie

@@ -1,5 +1,4 @@
 use Rattle.assembler.proofs.Cells.{exceeds-word, exceeds-code}
--- `assembler::values::exceeds` meets its contract.
 use borrow.Author.Needs.{needs}
 use Rattle.assembler.proofs.values.exceeds.Statement.{statement}
 use Rattle.assembler.proofs.values.exceeds.Tie as tie

@@ -1,6 +1,5 @@
 use mathlib.Core.Path.{refl}
 use Rattle.assembler.specs.Modes.{hasRegister}
--- `assembler::values::has_register` meets its contract.
 use borrow.Author.Needs.{needs}
 use Rattle.assembler.proofs.values.has_register.Statement.{statement}
 use Rattle.assembler.proofs.values.has_register.Tie as tie

@@ -1,6 +1,5 @@
 use mathlib.Core.Path.{refl}
 use Rattle.assembler.specs.Modes.{hasValue}
--- `assembler::values::has_value` meets its contract.
 use borrow.Author.Needs.{needs}
 use Rattle.assembler.proofs.values.has_value.Statement.{statement}
 use Rattle.assembler.proofs.values.has_value.Tie as tie

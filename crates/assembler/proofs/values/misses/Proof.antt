@@ -1,5 +1,4 @@
 use Rattle.assembler.proofs.Cells.{misses-word, misses-code}
--- `assembler::values::misses` meets its contract.
 use borrow.Author.Needs.{needs}
 use Rattle.assembler.proofs.values.misses.Statement.{statement}
 use Rattle.assembler.proofs.values.misses.Tie as tie

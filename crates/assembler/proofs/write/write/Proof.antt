@@ -9,7 +9,6 @@ use Rattle.line.specs.Code.{lineReadTold, lineIn, lineTold}
 use Rattle.assembler.specs.Meaning.{textLines}
 use Rattle.assembler.proofs.Rows.{Walk, walk-start, walk-end, walk-not, walk-row}
 use Rattle.assembler.proofs.Whole.{put-next, put-end}
--- `assembler::write::write` meets its contract.
 use borrow.Author.Needs.{needs}
 use Rattle.assembler.proofs.write.write.Statement.{statement}
 use Rattle.assembler.proofs.write.write.Tie as tie

@@ -4,7 +4,6 @@ use native.Mathlib.Omega.{arith}
 use lib.ListN.{getD}
 use Rattle.expression.specs.Table.{nameAt, placeFound}
 use Rattle.expression.proofs.Lookup.{found-guess, wrong-guess, no-guess}
--- `expression::table::find_kept` meets its contract.
 use borrow.Author.Needs.{needs}
 use Rattle.expression.proofs.table.find_kept.Statement.{statement}
 use Rattle.expression.proofs.table.find_kept.Tie as tie

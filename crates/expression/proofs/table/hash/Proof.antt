@@ -6,7 +6,6 @@ use Rattle.expression.specs.Reader.{isLetter}
 use Rattle.expression.specs.Table.{nameAt, hashFrom}
 use Rattle.expression.proofs.Places.{tested, inside, letter-ends}
 use Rattle.expression.proofs.Lookup.{hash-more, hash-stop}
--- `expression::table::hash` meets its contract.
 use borrow.Author.Needs.{needs}
 use Rattle.expression.proofs.table.hash.Statement.{statement}
 use Rattle.expression.proofs.table.hash.Tie as tie

@@ -1,4 +1,3 @@
--- `line::content::as_word` meets its contract.
 use borrow.Author.Needs.{needs}
 use Rattle.line.proofs.content.as_word.Statement.{statement}
 use Rattle.line.proofs.content.as_word.Tie as tie

@@ -1,7 +1,6 @@
 use Prim.Native.Nat.{ℕ}
 use native.Mathlib.Omega.{arith}
 use Rattle.line.proofs.Laws.{body-none, coded-is, coded-not, arg-at}
--- `line::content::coded` meets its contract.
 use borrow.Author.Needs.{needs}
 use Rattle.line.proofs.content.coded.Statement.{statement}
 use Rattle.line.proofs.content.coded.Tie as tie

@@ -3,7 +3,6 @@ use native.Mathlib.Omega.{arith}
 use Rattle.expression.specs.Table.{lookup}
 use Rattle.expression.proofs.Places.{inside-byte}
 use Rattle.line.proofs.Laws.{content-word, content-no-word, content-operation, content-none}
--- `line::content::content` meets its contract.
 use borrow.Author.Needs.{needs}
 use Rattle.line.proofs.content.content.Statement.{statement}
 use Rattle.line.proofs.content.content.Tie as tie

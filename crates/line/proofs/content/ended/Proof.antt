@@ -2,7 +2,6 @@ use mathlib.Core.Path.{_∙_, sym}
 use native.Mathlib.Omega.{arith}
 use Rattle.expression.proofs.Places.{inside-byte}
 use Rattle.line.proofs.Laws.{line-none, line-is, line-open}
--- `line::content::ended` meets its contract.
 use borrow.Author.Needs.{needs}
 use Rattle.line.proofs.content.ended.Statement.{statement}
 use Rattle.line.proofs.content.ended.Tie as tie

@@ -4,7 +4,6 @@ use Rattle.expression.specs.Reader.{isSpace}
 use Rattle.expression.specs.Table.{lookup}
 use Rattle.expression.proofs.Places.{tested}
 use Rattle.line.proofs.Laws.{operands-bare, operands-some, operands-none}
--- `line::content::operands` meets its contract.
 use borrow.Author.Needs.{needs}
 use Rattle.line.proofs.content.operands.Statement.{statement}
 use Rattle.line.proofs.content.operands.Tie as tie

@@ -3,7 +3,6 @@ use native.Mathlib.Omega.{arith}
 use Rattle.expression.specs.Table.{lookup}
 use Rattle.expression.proofs.Places.{inside-byte}
 use Rattle.line.proofs.Laws.{label-test, label-place, row-labelled, row-long, row-plain}
--- `line::content::row` meets its contract.
 use borrow.Author.Needs.{needs}
 use Rattle.line.proofs.content.row.Statement.{statement}
 use Rattle.line.proofs.content.row.Tie as tie

@@ -4,7 +4,6 @@ use Rattle.expression.specs.Table.{lookup}
 use Rattle.expression.proofs.Places.{inside-byte}
 use Rattle.line.specs.Code.{secondOf, arg}
 use Rattle.line.proofs.Laws.{body-none, second-is, second-none, arg-at, blank-in}
--- `line::content::second` meets its contract.
 use borrow.Author.Needs.{needs}
 use Rattle.line.proofs.content.second.Statement.{statement}
 use Rattle.line.proofs.content.second.Tie as tie

@@ -3,7 +3,6 @@ use Rattle.expression.specs.Reader.{isSpace}
 use Rattle.expression.specs.Table.{lookup}
 use Rattle.expression.proofs.Places.{tested}
 use Rattle.line.proofs.Laws.{word-is, word-none}
--- `line::content::word_after` meets its contract.
 use borrow.Author.Needs.{needs}
 use Rattle.line.proofs.content.word_after.Statement.{statement}
 use Rattle.line.proofs.content.word_after.Tie as tie

@@ -1,7 +1,6 @@
 use mathlib.Core.Path.{refl}
 use Rattle.line.specs.Forms.{firstMask}
 use Rattle.line.proofs.Masks.{first-beyond}
--- `line::forms::first_mask` meets its contract.
 use borrow.Author.Needs.{needs}
 use Rattle.line.proofs.forms.first_mask.Statement.{statement}
 use Rattle.line.proofs.forms.first_mask.Tie as tie

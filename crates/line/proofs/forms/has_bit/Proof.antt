@@ -1,6 +1,5 @@
 use mathlib.Core.Path.{refl}
 use Rattle.line.specs.Forms.{hasBit}
--- `line::forms::has_bit` meets its contract.
 use borrow.Author.Needs.{needs}
 use Rattle.line.proofs.forms.has_bit.Statement.{statement}
 use Rattle.line.proofs.forms.has_bit.Tie as tie

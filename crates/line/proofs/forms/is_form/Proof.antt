@@ -1,6 +1,5 @@
 use native.Mathlib.Omega.{arith}
 use Rattle.line.proofs.Masks.{form-is}
--- `line::forms::is_form` meets its contract.
 use borrow.Author.Needs.{needs}
 use Rattle.line.proofs.forms.is_form.Statement.{statement}
 use Rattle.line.proofs.forms.is_form.Tie as tie

@@ -1,7 +1,6 @@
 use mathlib.Core.Path.{refl}
 use Rattle.line.specs.Forms.{secondMask}
 use Rattle.line.proofs.Masks.{second-beyond}
--- `line::forms::second_mask` meets its contract.
 use borrow.Author.Needs.{needs}
 use Rattle.line.proofs.forms.second_mask.Statement.{statement}
 use Rattle.line.proofs.forms.second_mask.Tie as tie

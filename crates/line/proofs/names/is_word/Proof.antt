@@ -2,7 +2,6 @@ use mathlib.Core.Path.{_∙_, ap}
 use Prim.Native.Nat.{ℕ}
 use lib.Dec.{eqb}
 use Rattle.line.proofs.Keys.{word-key}
--- `line::names::is_word` meets its contract.
 use borrow.Author.Needs.{needs}
 use Rattle.line.proofs.names.is_word.Statement.{statement}
 use Rattle.line.proofs.names.is_word.Tie as tie

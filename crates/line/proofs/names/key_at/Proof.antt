@@ -5,7 +5,6 @@ use lib.ListN.{length, drop}
 use Rattle.expression.specs.Reader.{isLetter, head}
 use Rattle.expression.proofs.Places.{tested, inside, letter-ends}
 use Rattle.line.proofs.Keys.{letter-bounds, Keyed, keyed-first, key-small, keyed-more, keyed-long, keyed-end}
--- `line::names::key_at` meets its contract.
 use borrow.Author.Needs.{needs}
 use Rattle.line.proofs.names.key_at.Statement.{statement}
 use Rattle.line.proofs.names.key_at.Tie as tie

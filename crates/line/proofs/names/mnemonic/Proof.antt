@@ -1,7 +1,6 @@
 use mathlib.Core.Path.{_∙_, ap}
 use Rattle.line.specs.Names.{keyFrom, shortKey, indexFrom}
 use Rattle.line.proofs.Keys.{mnemonic-key, mnemonic-table}
--- `line::names::mnemonic` meets its contract.
 use borrow.Author.Needs.{needs}
 use Rattle.line.proofs.names.mnemonic.Statement.{statement}
 use Rattle.line.proofs.names.mnemonic.Tie as tie

@@ -4,7 +4,6 @@ use native.Mathlib.Omega.{arith}
 use lib.ListN.{length, drop}
 use Rattle.line.specs.Names.{indexFrom}
 use Rattle.line.proofs.Keys.{index-here, index-next, index-none}
--- `line::names::position` meets its contract.
 use borrow.Author.Needs.{needs}
 use Rattle.line.proofs.names.position.Statement.{statement}
 use Rattle.line.proofs.names.position.Tie as tie

@@ -1,7 +1,6 @@
 use mathlib.Core.Path.{_∙_, ap}
 use Rattle.line.specs.Names.{keyFrom, shortKey, indexFrom}
 use Rattle.line.proofs.Keys.{register-key, register-table}
--- `line::names::register_number` meets its contract.
 use borrow.Author.Needs.{needs}
 use Rattle.line.proofs.names.register_number.Statement.{statement}
 use Rattle.line.proofs.names.register_number.Tie as tie

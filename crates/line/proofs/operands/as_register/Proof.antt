@@ -1,4 +1,3 @@
--- `line::operands::as_register` meets its contract.
 use borrow.Author.Needs.{needs}
 use Rattle.line.proofs.operands.as_register.Statement.{statement}
 use Rattle.line.proofs.operands.as_register.Tie as tie

@@ -1,4 +1,3 @@
--- `line::operands::as_value` meets its contract.
 use borrow.Author.Needs.{needs}
 use Rattle.line.proofs.operands.as_value.Statement.{statement}
 use Rattle.line.proofs.operands.as_value.Tie as tie

@@ -2,7 +2,6 @@ use mathlib.Core.Path.{_∙_, sym}
 use native.Mathlib.Omega.{arith}
 use Rattle.expression.proofs.Places.{inside-byte}
 use Rattle.line.proofs.Laws.{square-none, square-is, square-other}
--- `line::operands::close_square` meets its contract.
 use borrow.Author.Needs.{needs}
 use Rattle.line.proofs.operands.close_square.Statement.{statement}
 use Rattle.line.proofs.operands.close_square.Tie as tie

@@ -3,7 +3,6 @@ use native.Mathlib.Omega.{arith}
 use Rattle.expression.specs.Table.{lookup}
 use Rattle.expression.proofs.Places.{inside-byte}
 use Rattle.line.proofs.Laws.{square-register, square-value, value-in}
--- `line::operands::in_square` meets its contract.
 use borrow.Author.Needs.{needs}
 use Rattle.line.proofs.operands.in_square.Statement.{statement}
 use Rattle.line.proofs.operands.in_square.Tie as tie

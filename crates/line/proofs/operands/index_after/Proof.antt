@@ -3,7 +3,6 @@ use native.Mathlib.Omega.{arith}
 use Rattle.expression.proofs.Places.{inside-byte}
 use Rattle.line.specs.Code.{indexOf, registerIn}
 use Rattle.line.proofs.Laws.{none-arg, index-plus, index-minus, index-none}
--- `line::operands::index_after` meets its contract.
 use borrow.Author.Needs.{needs}
 use Rattle.line.proofs.operands.index_after.Statement.{statement}
 use Rattle.line.proofs.operands.index_after.Tie as tie

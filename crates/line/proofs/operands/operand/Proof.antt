@@ -3,7 +3,6 @@ use native.Mathlib.Omega.{arith}
 use Rattle.expression.specs.Table.{lookup}
 use Rattle.expression.proofs.Places.{inside-byte}
 use Rattle.line.proofs.Laws.{operand-register, operand-square, operand-value}
--- `line::operands::operand` meets its contract.
 use borrow.Author.Needs.{needs}
 use Rattle.line.proofs.operands.operand.Statement.{statement}
 use Rattle.line.proofs.operands.operand.Tie as tie

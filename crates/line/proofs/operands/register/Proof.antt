@@ -1,6 +1,5 @@
 use native.Mathlib.Omega.{arith}
 use Rattle.line.proofs.Laws.{register-is, register-no}
--- `line::operands::register` meets its contract.
 use borrow.Author.Needs.{needs}
 use Rattle.line.proofs.operands.register.Statement.{statement}
 use Rattle.line.proofs.operands.register.Tie as tie

@@ -1,4 +1,3 @@
--- `recorded::clear::clear_bytes` meets its contract.
 use mathlib.Core.Path.{_≡_, _∙_, refl}
 use mathlib.Core.List.{[], _++_, append-nil}
 use Prim.Native.Nat.{ℕ, _-_, _≤_}

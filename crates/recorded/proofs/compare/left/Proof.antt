@@ -3,7 +3,6 @@ use lib.Dec.{eqb}
 use Rattle.definition.specs.Word.{eqZ}
 use Rattle.recorded.specs.Compare.{leftFault}
 use Rattle.recorded.proofs.Laws.{same-true, same-false, words-sound, words-whole, bytes-whole}
--- `recorded::compare::left` meets its contract.
 use mathlib.Core.Path.{_≡_, refl, sym}
 use mathlib.Core.Bool.{Bool, true, false, not, true≢false}
 use Prim.Native.Nat.{ℕ}
