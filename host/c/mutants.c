@@ -41,6 +41,9 @@ enum {
     POLL_AFTER_EXCEPTION,     /* run: an exception step polls */
     MARK_WITH_I_CLEAR,        /* run: the pending mark is taken with I clear */
     SP_UNDONE,                /* run: a stop 5 puts sp back */
+    OUTSIDE_STOPS,            /* run: ld of a cell outside is still stop 4 */
+    NEGATIVE_TRAPS,           /* run: ld through a word that is no address is code 5 */
+    CALL_UNPUSHED,            /* run: call with an operand outside has not pushed */
     RAISE_NO_CYCLE,           /* raise: no cycle is added */
     RAISE_KEEPS_I,            /* raise: code 0 leaves I set */
     EXERCISE_NEXT_SEED,       /* exercise: the cells of the next seed */
@@ -62,6 +65,8 @@ enum {
     ROW = Z33_ROW_LENGTH
 };
 enum { I = Z33_SR_INTERRUPT_ENABLE, HANDLER = Z33_INTERRUPT_HANDLER };
+/* op * 36 + m1 * 6 + m2 */
+enum { CALL_DIRECT = 2 * 36 + 3 * 6, LD_DIRECT = 14 * 36 + 3 * 6 + 2, LD_INDIRECT = 14 * 36 + 4 * 6 + 2 };
 
 z33_done whole_z33_fresh(int64_t *, size_t, int64_t *, size_t);
 z33_ran whole_z33_run(int64_t *, size_t, uint8_t *, size_t, uint8_t *, size_t, int64_t *, size_t, uint32_t);
@@ -101,6 +106,34 @@ static uint32_t other_budget(uint32_t budget) {
     }
 }
 
+/* The form of the instruction at pc, or -1. */
+static int64_t form_at(const int64_t *cells, size_t cells_len, int64_t pc) {
+    return pc < (int64_t)(cells_len / 3) && cells[3 * pc] >= 2 ? (cells[3 * pc] - 2) / 25 : -1;
+}
+
+static void raise_5(int64_t *cells, size_t cells_len, int64_t *row, z33_ran *ran) {
+    z33_raised raised = whole_z33_raise(cells, cells_len, row, ROW, 5);
+    ran->stop = raised.stop;
+    ran->detail = raised.detail;
+    ran->steps = raised.stop == 0;
+}
+
+/* A step of an accepted machine that is not left to the library: an operand outside the cells, read otherwise. */
+static int read_otherwise(int64_t *cells, size_t cells_len, int64_t *row, z33_ran *ran) {
+    int64_t form = form_at(cells, cells_len, row[PC]);
+    int64_t wrong = MUTANT == OUTSIDE_STOPS ? LD_DIRECT : MUTANT == CALL_UNPUSHED ? CALL_DIRECT : -2;
+    if (form != wrong || cells[3 * row[PC] + 1] < (int64_t)(cells_len / 3)) {
+        return 0;
+    }
+    row[PC]++;
+    if (MUTANT == OUTSIDE_STOPS) {
+        ran->stop = 4;
+    } else {
+        raise_5(cells, cells_len, row, ran);
+    }
+    return 1;
+}
+
 /* The machine after one step that was taken, changed. */
 static void step_after(int64_t *cells, size_t cells_len, int64_t *row, z33_ran *ran) {
     int entered = ran->steps == 1 && row[PC] == HANDLER && cells[3 * 102 + 1] != 0;
@@ -123,6 +156,10 @@ z33_ran z33_run(int64_t *cells, size_t cells_len, uint8_t *queue, size_t queue_l
     if (row_len == ROW) {
         memcpy(before, row, sizeof before);
     }
+    ran = whole_z33_run(cells, cells_len, queue, queue_len, output, output_len, row, row_len, 0);
+    if (ran.refusal == 0 && budget == 1 && read_otherwise(cells, cells_len, row, &ran)) {
+        return ran;
+    }
     ran = whole_z33_run(cells, cells_len, queue, queue_len, output, output_len, row, row_len, other_budget(budget));
     if (ran.refusal != 0) {
         ran.place += MUTANT == PLACE_OF_DAMAGE && ran.refusal == 5;
@@ -132,6 +169,9 @@ z33_ran z33_run(int64_t *cells, size_t cells_len, uint8_t *queue, size_t queue_l
         return ran;
     }
     step_after(cells, cells_len, row, &ran);
+    if (MUTANT == NEGATIVE_TRAPS && budget == 1 && ran.stop == 4 && form_at(cells, cells_len, before[PC]) == LD_INDIRECT) {
+        raise_5(cells, cells_len, row, &ran);
+    }
     switch (MUTANT) {
     case NO_CYCLES: row[CYCLES] = before[CYCLES]; break;
     case DETAIL_OF_STOP_5: if (ran.stop == 5) ran.detail = 0; break;

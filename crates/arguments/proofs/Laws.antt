@@ -1,6 +1,6 @@
 -- Operands by mode, and what was taken as a result of the definition: what the proofs of this crate and of those above cite.
 use mathlib.Core.Path.{_≡_, refl, sym, ap, _∙_}
-use mathlib.Core.Bool.{true, false, true≢false}
+use mathlib.Core.Bool.{Bool, true, false, true≢false}
 use mathlib.Core.List.{List}
 use Prim.Native.Nat.{ℕ, zero, suc, _<_}
 use borrow.Author.Tests.{ltb-true}
@@ -13,19 +13,23 @@ use Rattle.definition.specs.declared.Address.{Address}
 use Rattle.definition.specs.declared.Address.the-variants.{At, NotAddress}
 use Rattle.definition.specs.declared.Found.{Found}
 use Rattle.definition.specs.declared.Found.the-variants.{Here, Outside}
+use Rattle.definition.specs.declared.Given.{Given}
+use Rattle.definition.specs.declared.Given.the-variants.{Gives, OutsideCells, NoAddress}
 use Rattle.definition.specs.declared.Error.{Error}
-use Rattle.definition.specs.declared.Error.the-variants.{InvalidMemoryAccess}
+use Rattle.definition.specs.declared.Error.the-variants.{InvalidMemoryAccess, Extract}
+use Rattle.definition.specs.Word.{addressOf}
 use Rattle.definition.specs.Memory.{cellCount, get, extractWord, extractAddress}
-use Rattle.definition.specs.Registers.{Reg}
+use Rattle.definition.specs.Registers.{Reg, regAt, getReg}
 use Rattle.definition.specs.Arguments.{Operand, none, imm, reg, dir, ind, idx, operand, resolve, cellThere, extractCell}
-use Rattle.definition.specs.Exec.{Res, Exec, core, err, andThen, orWord, orAddress, orCell, read}
+use Rattle.definition.specs.Exec.{Res, Exec, core, err, andThen, orWord, orAddress, orCell, orGiven, read}
 use Rattle.definition.specs.Instructions.{cellOf, wordOf, targetOf, registerWord, placeOf}
 use Rattle.memory.proofs.Laws.{get-here}
+use Rattle.registers.specs.Meaning.{result}
 use Rattle.registers.proofs.Laws.{then-ok, then-err}
 use Rattle.arguments.specs.declared.taken.WordTaken.{WordTaken}
 use Rattle.arguments.specs.declared.taken.AddressTaken.{AddressTaken}
 use Rattle.arguments.specs.declared.taken.CellTaken.{CellTaken}
-use Rattle.arguments.specs.Operands.{given}
+use Rattle.arguments.specs.Operands.{holding, givenBy}
 use Rattle.arguments.specs.Taken.{tookWord, tookAddress, tookCell, wordRes, addressRes, cellRes}
 
 -- ---- by mode
@@ -41,8 +45,8 @@ module _ (r : ℕ) (w : ℤ) (s : Registers) where
   resolve-else (suc (suc (suc (suc (suc zero))))) h₃ h₄ h₅ = absurd (h₅ refl)
   resolve-else (suc (suc (suc (suc (suc (suc m)))))) h₃ h₄ h₅ = refl
 
-  pub given-else : (there : Found) (m : ℕ) → (m ≡ 1 → ⊥) → (m ≡ 2 → ⊥) → there ≡ given (operand m r w) there s
-  unfolding operand given
+  pub given-else : (there : Given) (m : ℕ) → (m ≡ 1 → ⊥) → (m ≡ 2 → ⊥) → there ≡ givenBy (operand m r w) there s
+  unfolding operand givenBy
   given-else there zero h₁ h₂ = refl
   given-else there (suc zero) h₁ h₂ = absurd (h₁ refl)
   given-else there (suc (suc zero)) h₁ h₂ = absurd (h₂ refl)
@@ -51,8 +55,29 @@ module _ (r : ℕ) (w : ℤ) (s : Registers) where
   given-else there (suc (suc (suc (suc (suc zero))))) h₁ h₂ = refl
   given-else there (suc (suc (suc (suc (suc (suc m)))))) h₁ h₂ = refl
 
-pub given-is : (x : Operand) (l : List ℤ) (s : Registers) → given x (cellThere (resolve x s) l) s ≡ extractCell x l s
-unfolding given extractCell cellThere resolve
+  -- a reader that is handed its register's cell
+  pub resolve-in-a : (m : ℕ) → resolve (operand m 0 w) (holding (getReg (regAt r) s)) ≡ resolve (operand m r w) s
+  unfolding operand resolve regAt getReg
+  resolve-in-a zero = refl
+  resolve-in-a (suc zero) = refl
+  resolve-in-a (suc (suc zero)) = refl
+  resolve-in-a (suc (suc (suc zero))) = refl
+  resolve-in-a (suc (suc (suc (suc zero)))) = refl
+  resolve-in-a (suc (suc (suc (suc (suc zero))))) = refl
+  resolve-in-a (suc (suc (suc (suc (suc (suc m)))))) = refl
+
+  pub extract-in-a : (l : List ℤ) (m : ℕ) → extractCell (operand m 0 w) l (holding (getReg (regAt r) s)) ≡ extractCell (operand m r w) l s
+  unfolding operand resolve regAt getReg extractCell
+  extract-in-a l zero = refl
+  extract-in-a l (suc zero) = refl
+  extract-in-a l (suc (suc zero)) = refl
+  extract-in-a l (suc (suc (suc zero))) = refl
+  extract-in-a l (suc (suc (suc (suc zero)))) = refl
+  extract-in-a l (suc (suc (suc (suc (suc zero))))) = refl
+  extract-in-a l (suc (suc (suc (suc (suc (suc m)))))) = refl
+
+pub given-is : (x : Operand) (l : List ℤ) (s : Registers) → givenBy x (cellThere (resolve x s) l) s ≡ extractCell x l s
+unfolding givenBy extractCell cellThere resolve
 given-is none l s = refl
 given-is (imm w) l s = refl
 given-is (reg r) l s = refl
@@ -78,22 +103,57 @@ module _ (l : List ℤ) (s : Registers) (e : Error) where
   cell-res (Here v) = refl
   cell-res Outside = refl
 
+module _ (l : List ℤ) (s : Registers) where
+  pub given-res : (v : Given) → cellRes l (tookCell (orGiven v (core l s))) ≡ orGiven v (core l s)
+  unfolding orGiven
+  given-res (Gives v) = refl
+  given-res OutsideCells = refl
+  given-res NoAddress = refl
+
+-- the word of a cell that was taken, and the address that a word is
+abbrev pub wordIn : Error → Cell → Exec ℤ
+wordIn e v = orWord (extractWord v) e
+
+abbrev pub addressIn : Error → ℤ → Exec ℕ
+addressIn e w = orAddress (addressOf w) e
+
+module _ (l : List ℤ) (e : Error) where
+  word-in-res : (v : Cell) (b : Bool) (d : Error) (s : Registers) → wordRes l (tookWord (andThen (result v b d (core l s)) (wordIn e))) ≡ andThen (result v b d (core l s)) (wordIn e)
+  unfolding andThen
+  word-in-res v true d s = word-res l s e _
+  word-in-res v false d s = refl
+
+  pub in-cell-is : (c : CellTaken) (t : WordTaken) → t ≡ tookWord (andThen (cellRes l c) (wordIn e)) → wordRes l t ≡ andThen (cellRes l c) (wordIn e)
+  in-cell-is c t h = ap (wordRes l) h ∙ word-in-res (c .value) (c .ok) (c .error) (c .s)
+
+  address-in-res : (w : ℤ) (b : Bool) (d : Error) (s : Registers) → addressRes l (tookAddress (andThen (result w b d (core l s)) (addressIn e))) ≡ andThen (result w b d (core l s)) (addressIn e)
+  unfolding andThen
+  address-in-res w true d s = address-res l s e _
+  address-in-res w false d s = refl
+
+  pub in-word-is : (w : WordTaken) (t : AddressTaken) → t ≡ tookAddress (andThen (wordRes l w) (addressIn e)) → addressRes l t ≡ andThen (wordRes l w) (addressIn e)
+  in-word-is w t h = ap (addressRes l) h ∙ address-in-res (w .value) (w .ok) (w .error) (w .s)
+
 -- each as the result that the definition has
 module _ (l : List ℤ) (s : Registers) where
+  pub cell-of-is : (x : Operand) (t : CellTaken) → t ≡ tookCell (cellOf x (core l s)) → cellRes l t ≡ cellOf x (core l s)
+  cell-of-is x t h = ap (cellRes l) h ∙ given-res l s _
+
   pub word-of-is : (x : Operand) (t : WordTaken) → t ≡ tookWord (wordOf x (core l s)) → wordRes l t ≡ wordOf x (core l s)
-  word-of-is x t h = ap (wordRes l) h ∙ word-res l s _ _
+  word-of-is x t h =
+      let c = tookCell (cellOf x (core l s)) in let e = ap (λ (m : Res Cell). andThen m (wordIn Extract)) (cell-of-is x c refl) in
+      in-cell-is l Extract c t (h ∙ ap tookWord (sym e)) ∙ e
 
   pub register-word-is : (r : Reg) (t : WordTaken) → t ≡ tookWord (registerWord r (core l s)) → wordRes l t ≡ registerWord r (core l s)
   register-word-is r t h = ap (wordRes l) h ∙ word-res l s _ _
 
   pub target-of-is : (x : Operand) (t : AddressTaken) → t ≡ tookAddress (targetOf x (core l s)) → addressRes l t ≡ targetOf x (core l s)
-  target-of-is x t h = ap (addressRes l) h ∙ address-res l s _ _
+  target-of-is x t h =
+      let w = tookWord (wordOf x (core l s)) in let e = ap (λ (m : Res ℤ). andThen m (addressIn Extract)) (word-of-is x w refl) in
+      in-word-is l Extract w t (h ∙ ap tookAddress (sym e)) ∙ e
 
   pub address-of-is : (x : Operand) (t : AddressTaken) → t ≡ tookAddress (placeOf x (core l s)) → addressRes l t ≡ placeOf x (core l s)
   address-of-is x t h = ap (addressRes l) h ∙ address-res l s _ _
-
-  pub cell-of-is : (x : Operand) (t : CellTaken) → t ≡ tookCell (cellOf x (core l s)) → cellRes l t ≡ cellOf x (core l s)
-  cell-of-is x t h = ap (cellRes l) h ∙ cell-res l s _ _
 
   pub read-is : (n : ℕ) (t : CellTaken) → t ≡ tookCell (read n InvalidMemoryAccess (core l s)) → cellRes l t ≡ read n InvalidMemoryAccess (core l s)
   read-is n t h = ap (cellRes l) h ∙ cell-res l s _ _

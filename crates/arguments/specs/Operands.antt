@@ -1,9 +1,10 @@
 -- Operands as the code has them.
-use mathlib.Core.List.{List}
+use lib.IntN.{pos}
+use Rattle.definition.specs.declared.Cell.{Cell}
 use Rattle.definition.specs.declared.Registers.{Registers}
-use Rattle.definition.specs.declared.Found.{Found}
-use Rattle.definition.specs.declared.Found.the-variants.{Here}
-use Rattle.definition.specs.Memory.{word}
+use Rattle.definition.specs.declared.Given.{Given}
+use Rattle.definition.specs.declared.Given.the-variants.{Gives}
+use Rattle.definition.specs.Memory.{empty, word}
 use Rattle.definition.specs.Registers.{getReg}
 use Rattle.definition.specs.Arguments.{Operand, operand, none, imm, reg, dir, ind, idx}
 use Rattle.arguments.specs.declared.Arg.{Arg}
@@ -11,11 +12,18 @@ use Rattle.arguments.specs.declared.Arg.{Arg}
 abbrev pub argOf : Arg → Operand
 argOf x = operand (x .mode) (x .reg) (x .number)
 
--- The cell that an operand gives, where `there` stands at the address that it names.
-unfoldable pub given : Operand → Found → Registers → Found
-given none there s = there
-given (imm w) there s = Here (word w)
-given (reg r) there s = Here (getReg r s)
-given (dir w) there s = there
-given (ind r) there s = there
-given (idx r k) there s = there
+-- The same in the only register a, and registers that hold v there: a reader that is handed its register's cell v.
+abbrev pub inA : Arg → Operand
+inA x = operand (x .mode) 0 (x .number)
+
+abbrev pub holding : Cell → Registers
+holding v = record { a = v; b = empty; pc = 0; sp = 0; sr = pos 0 }
+
+-- What an operand gives, where `there` stands at the address that it names.
+unfoldable pub givenBy : Operand → Given → Registers → Given
+givenBy none there s = there
+givenBy (imm w) there s = Gives (word w)
+givenBy (reg r) there s = Gives (getReg r s)
+givenBy (dir w) there s = there
+givenBy (ind r) there s = there
+givenBy (idx r k) there s = there

@@ -1,8 +1,9 @@
-// arguments.rs: what an operand names and gives. Which error an operand ends in, and what taking it leaves of the registers, is said here alone.
+// arguments.rs: what an operand names and gives. Which error an operand ends in, and what taking it leaves of the registers, is said here alone (taken.rt).
 use definition::Address;
 use definition::Cell;
 use definition::Error;
 use definition::Found;
+use definition::Given;
 use definition::Registers;
 use definition::Word;
 use taken::AddressTaken;
@@ -14,11 +15,11 @@ ghost use lib.IntN.{ℤ};
 ghost use Rattle.definition.specs.declared.Error.the-variants.{InvalidMemoryAccess};
 ghost use Rattle.definition.specs.Memory.{extractWord};
 ghost use Rattle.definition.specs.Registers.{regAt};
-ghost use Rattle.definition.specs.Arguments.{indexed, resolve, cellThere, extractCell, wordThere};
+ghost use Rattle.definition.specs.Arguments.{indexed, resolve, readThere, cellThere, extractCell};
 ghost use Rattle.definition.specs.Exec.{core, read};
 ghost use Rattle.definition.specs.Instructions.{cellOf, wordOf, targetOf, registerWord, placeOf};
 ghost use Rattle.memory.specs.Overlay.{overlay};
-ghost use Rattle.arguments.specs.Operands.{argOf, given};
+ghost use Rattle.arguments.specs.Operands.{argOf, inA, holding, givenBy};
 ghost use Rattle.arguments.specs.Taken.{tookWord, tookAddress, tookCell};
 
 pub mod taken;
@@ -43,79 +44,81 @@ fn indexed(rc: Cell, number: i64) -> Address
     }
 }
 
-// ResolveAddress: Dir, Ind, Idx
-fn resolve(s: Registers, x: Arg) -> Address
-    ensures { λ r. ⌜ r ≡ resolve (argOf x) s ⌝ }
+// ResolveAddress: Dir, Ind, Idx. Here and below rc is the cell of the operand's register, taken once: handed the registers whole, a reader stays out of line
+// (docs/SPEED.md).
+fn resolve(rc: Cell, x: Arg) -> Address
+    ensures { λ r. ⌜ r ≡ resolve (inA x) (holding rc) ⌝ }
 {
     let mode = x.mode;
     match mode {
         3 => word::to_address(x.number),
-        4 => memory::extract_address(registers::get_reg(s, x.reg)),
-        5 => indexed(registers::get_reg(s, x.reg), x.number),
+        4 => memory::extract_address(rc),
+        5 => indexed(rc, x.number),
         _ => Address::NotAddress,
     }
 }
 
+// "not below the count of cells"
+fn read_there(v: Found) -> Given
+    ensures { λ r. ⌜ r ≡ readThere v ⌝ }
+{
+    match v {
+        Found::Here(v) => Given::Gives(v),
+        Found::Outside => Given::OutsideCells,
+    }
+}
+
 // The cell at an address that may be none.
-fn cell_there(cells: &[i64], n: Address) -> Found
+fn cell_there(cells: &[i64], n: Address) -> Given
     ensures { λ r. ⌜ r ≡ cellThere n (now (cells .entry)) ⌝ }
 {
     match n {
-        Address::At(n) => memory::get(cells, n),
-        Address::NotAddress => Found::Outside,
+        Address::At(n) => read_there(memory::get(cells, n)),
+        Address::NotAddress => Given::NoAddress,
     }
 }
 
 // The same after the write that waits: v at `at`.
-fn there_over(cells: &[i64], at: u32, v: Cell, n: Address) -> Found
+fn there_over(cells: &[i64], at: u32, v: Cell, n: Address) -> Given
     ensures { λ r. ⌜ r ≡ cellThere n (overlay at v (now (cells .entry))) ⌝ }
 {
     match n {
-        Address::At(n) => memory::read_over(cells, at, v, n),
-        Address::NotAddress => Found::Outside,
+        Address::At(n) => read_there(memory::read_over(cells, at, v, n)),
+        Address::NotAddress => Given::NoAddress,
     }
 }
 
 // What the operand gives, where `there` stands at its address.
-fn given(s: Registers, x: Arg, there: Found) -> Found
-    ensures { λ r. ⌜ r ≡ given (argOf x) there s ⌝ }
+fn given_by(rc: Cell, x: Arg, there: Given) -> Given
+    ensures { λ r. ⌜ r ≡ givenBy (inA x) there (holding rc) ⌝ }
 {
     let mode = x.mode;
     match mode {
-        1 => Found::Here(memory::word_cell(x.number)),
-        2 => Found::Here(registers::get_reg(s, x.reg)),
+        1 => Given::Gives(memory::word_cell(x.number)),
+        2 => Given::Gives(rc),
         _ => there,
     }
 }
 
 // ExtractValue
-fn extract_cell(cells: &[i64], s: Registers, x: Arg) -> Found
-    ensures { λ r. ⌜ r ≡ extractCell (argOf x) (now (cells .entry)) s ⌝ }
+fn extract_cell(cells: &[i64], rc: Cell, x: Arg) -> Given
+    ensures { λ r. ⌜ r ≡ extractCell (inA x) (now (cells .entry)) (holding rc) ⌝ }
 {
-    given(s, x, cell_there(cells, resolve(s, x)))
-}
-
-fn word_there(x: Found) -> Word
-    ensures { λ r. ⌜ r ≡ wordThere x ⌝ }
-{
-    match x {
-        Found::Here(v) => memory::extract_word(v),
-        Found::Outside => Word::NotWord,
-    }
+    given_by(rc, x, cell_there(cells, resolve(rc, x)))
 }
 
 // The operand's cell.
 pub fn cell_of(cells: &[i64], s: Registers, x: Arg) -> CellTaken
     ensures { λ t. ⌜ t ≡ tookCell (cellOf (argOf x) (core (now (cells .entry)) s)) ⌝ }
 {
-    taken::or_cell(s, extract_cell(cells, s, x), Error::Extract)
+    taken::or_given(s, extract_cell(cells, registers::get_reg(s, x.reg), x))
 }
 
 // The operand's word.
 pub fn word_of(cells: &[i64], s: Registers, x: Arg) -> WordTaken
     ensures { λ t. ⌜ t ≡ tookWord (wordOf (argOf x) (core (now (cells .entry)) s)) ⌝ }
 {
-    taken::or_word(s, word_there(extract_cell(cells, s, x)), Error::Extract)
+    taken::word_in(cell_of(cells, s, x), Error::Extract)
 }
 
 // The word of a register.
@@ -133,30 +136,27 @@ pub fn register_word(s: Registers, r: u32) -> WordTaken
 pub fn target_of(cells: &[i64], s: Registers, x: Arg) -> AddressTaken
     ensures { λ t. ⌜ t ≡ tookAddress (targetOf (argOf x) (core (now (cells .entry)) s)) ⌝ }
 {
-    taken::or_address(
-        s,
-        memory::as_address(word_there(extract_cell(cells, s, x))),
-        Error::Extract,
-    )
+    taken::address_in(cell_of(cells, s, x), Error::Extract)
 }
 
 // The same for call, which has pushed before it reads: v at `at`.
 pub fn target_over(cells: &[i64], at: u32, v: Cell, s: Registers, x: Arg) -> AddressTaken
     ensures { λ t. ⌜ t ≡ tookAddress (targetOf (argOf x) (core (overlay at v (now (cells .entry))) s)) ⌝ }
 {
-    let there = there_over(cells, at, v, resolve(s, x));
-    taken::or_address(
-        s,
-        memory::as_address(word_there(given(s, x, there))),
-        Error::Extract,
-    )
+    let rc = registers::get_reg(s, x.reg);
+    let there = there_over(cells, at, v, resolve(rc, x));
+    taken::address_in(taken::or_given(s, given_by(rc, x, there)), Error::Extract)
 }
 
 // The address that the operand names.
 pub fn address_of(s: Registers, x: Arg) -> AddressTaken
     ensures { λ t. ⌜ ((l : List ℤ) → t ≡ tookAddress (placeOf (argOf x) (core l s))) ⌝ }
 {
-    taken::or_address(s, resolve(s, x), Error::CellError)
+    taken::or_address(
+        s,
+        resolve(registers::get_reg(s, x.reg), x),
+        Error::CellError,
+    )
 }
 
 // A cell read at an address of the machine's own: sp, or where pc and sr are saved.

@@ -3,13 +3,17 @@ use definition::Address;
 use definition::Cell;
 use definition::Error;
 use definition::Found;
+use definition::Given;
 use definition::Registers;
 use definition::Word;
 ghost use mathlib.Core.Path.{_≡_};
 ghost use mathlib.Core.List.{List};
 ghost use lib.IntN.{ℤ};
-ghost use Rattle.definition.specs.Exec.{core, orWord, orAddress, orCell};
-ghost use Rattle.arguments.specs.Taken.{tookWord, tookAddress, tookCell};
+ghost use mathlib.Core.Bool.{false};
+ghost use Rattle.definition.specs.Word.{addressOf};
+ghost use Rattle.definition.specs.Memory.{empty, extractWord};
+ghost use Rattle.definition.specs.Exec.{core, andThen, orWord, orAddress, orCell, orGiven};
+ghost use Rattle.arguments.specs.Taken.{tookWord, tookAddress, tookCell, wordRes, cellRes};
 
 pub struct WordTaken {
     pub ok: bool,
@@ -71,6 +75,22 @@ pub fn or_address(s: Registers, n: Address, error: Error) -> AddressTaken
     }
 }
 
+fn no_cell(s: Registers, error: Error) -> CellTaken
+    ensures { λ t. ⌜ t ≡ record { ok = false; error = error; value = empty; s = s } ⌝ }
+{
+    let value = Cell {
+        tag: 0,
+        first: 0,
+        second: 0,
+    };
+    CellTaken {
+        ok: false,
+        error,
+        value,
+        s,
+    }
+}
+
 pub fn or_cell(s: Registers, v: Found, error: Error) -> CellTaken
     ensures { λ t. ⌜ ((l : List ℤ) → t ≡ tookCell (orCell v error (core l s))) ⌝ }
 {
@@ -81,18 +101,64 @@ pub fn or_cell(s: Registers, v: Found, error: Error) -> CellTaken
             value,
             s,
         },
-        Found::Outside => {
-            let value = Cell {
-                tag: 0,
-                first: 0,
-                second: 0,
-            };
-            CellTaken {
-                ok: false,
-                error,
-                value,
-                s,
-            }
-        }
+        Found::Outside => no_cell(s, error),
     }
+}
+
+// "An operand read at an address not below the count of cells raises code 5"; "any other operand [...] that cannot be taken is stop 4".
+pub fn or_given(s: Registers, v: Given) -> CellTaken
+    ensures { λ t. ⌜ ((l : List ℤ) → t ≡ tookCell (orGiven v (core l s))) ⌝ }
+{
+    match v {
+        Given::Gives(value) => CellTaken {
+            ok: true,
+            error: Error::Reset,
+            value,
+            s,
+        },
+        Given::OutsideCells => no_cell(s, Error::InvalidMemoryAccess),
+        Given::NoAddress => no_cell(s, Error::Extract),
+    }
+}
+
+// The word of the cell that was taken.
+pub fn word_in(c: CellTaken, error: Error) -> WordTaken
+    ensures { λ t. ⌜ ((l : List ℤ) → t ≡ tookWord (andThen (cellRes l c) (λ v. orWord (extractWord v) error))) ⌝ }
+{
+    let s = c.s;
+    if c.ok {
+        let v = c.value;
+        return or_word(s, memory::extract_word(v), error);
+    }
+    let missing = c.error;
+    WordTaken {
+        ok: false,
+        error: missing,
+        value: 0,
+        s,
+    }
+}
+
+// The word that was taken, as an address.
+fn word_address(w: WordTaken, error: Error) -> AddressTaken
+    ensures { λ t. ⌜ ((l : List ℤ) → t ≡ tookAddress (andThen (wordRes l w) (λ n. orAddress (addressOf n) error))) ⌝ }
+{
+    let s = w.s;
+    if w.ok {
+        return or_address(s, word::to_address(w.value), error);
+    }
+    let missing = w.error;
+    AddressTaken {
+        ok: false,
+        error: missing,
+        value: 0,
+        s,
+    }
+}
+
+// The address in the cell that was taken.
+pub fn address_in(c: CellTaken, error: Error) -> AddressTaken
+    ensures { λ t. ⌜ ((l : List ℤ) → t ≡ tookAddress (andThen (andThen (cellRes l c) (λ v. orWord (extractWord v) error)) (λ n. orAddress (addressOf n) error))) ⌝ }
+{
+    word_address(word_in(c, error), error)
 }

@@ -16,6 +16,8 @@ use Rattle.definition.specs.declared.Address.{Address}
 use Rattle.definition.specs.declared.Address.the-variants.{At, NotAddress}
 use Rattle.definition.specs.declared.Found.{Found}
 use Rattle.definition.specs.declared.Found.the-variants.{Here, Outside}
+use Rattle.definition.specs.declared.Given.{Given}
+use Rattle.definition.specs.declared.Given.the-variants.{Gives, OutsideCells, NoAddress}
 use Rattle.definition.specs.declared.Error.{Error}
 use Rattle.definition.specs.declared.Error.the-variants.{InvalidInstruction, InvalidMemoryAccess, CellError, Extract}
 use Rattle.definition.specs.Constants.{ZERO, NEGATIVE, OVERFLOW}
@@ -23,10 +25,10 @@ use Rattle.definition.specs.Word.{addressOf, isShift}
 use Rattle.definition.specs.Memory.{word, extractWord, asAddress, extractAddress, cellCount, cellAt, putCell, found, get}
 use Rattle.definition.specs.Registers as R
 use Rattle.definition.specs.Registers.{Reg, getReg, Put, assigned, refused, putReg, putPc, putSp, putSr, putFlag, supervisor, with-a, with-b, with-pc, with-sp, with-sr}
-use Rattle.definition.specs.Arguments.{Operand, none, imm, reg, dir, ind, idx, indexed, resolve, cellThere, extractCell, operandWord}
+use Rattle.definition.specs.Arguments.{Operand, none, imm, reg, dir, ind, idx, indexed, resolve, readThere, cellThere, extractCell}
 use Rattle.definition.specs.Encoding as E
 use Rattle.definition.specs.Encoding.{Op, Extracted, instruction, noInstruction}
-use Rattle.definition.specs.Exec.{Core, with-regs, with-cells, Exec, Res, ok, err, andThen, _>>=_, _>>_, return, raise, branch, ask, change, orWord, orAddress, orCell, orPut, assign, read, write, checkPrivileged, below, push, pop}
+use Rattle.definition.specs.Exec.{Core, with-regs, with-cells, Exec, Res, ok, err, andThen, _>>=_, _>>_, return, raise, branch, ask, change, orWord, orAddress, orCell, orGiven, orPut, assign, read, write, checkPrivileged, below, push, pop}
 use Rattle.definition.specs.Instructions.{cellOf, wordOf, targetOf, registerWord, placeOf, setRegister, andFlags, signFlags, putResult, putWrapped, putCompared, putQuotient, putShifted, words, neg, notOp, jump, jumpIf, call, rtn, popOp, pushOp, ld, st, fas, swapBack, swap, rti, reset, Request, nothing, quiet, inOp, outOp, execute}
 use Rattle.definition.specs.Runtime.{orInstruction, fetch, Executed, attempt}
 use Rattle.definition.specs.Accepted.{Addr}
@@ -181,6 +183,17 @@ module _ (I : Core → Type 0) (Sd : Cell → Type 0) (Loud : Type 0) (Q : Reque
   reg-in R.SP c i = L .wordS _
   reg-in R.SR c i = L .wordS _
 
+  abbrev GivesSd : Given → Type 0
+  GivesSd (Gives v) = Sd v
+  GivesSd OutsideCells = Unit {0}
+  GivesSd NoAddress = Unit {0}
+
+  good-given : (g : Given) (c : Core) → GivesSd g → I c → Good Sd (orGiven g c)
+  unfolding orGiven
+  good-given (Gives v) c h i = (h, i)
+  good-given OutsideCells c h i = i
+  good-given NoAddress c h i = i
+
   abbrev Takes : Core → Put → Type 0
   Takes c (assigned s) = I (with-regs s c)
   Takes c (refused e) = Unit {0}
@@ -265,16 +278,16 @@ module _ (I : Core → Type 0) (Sd : Cell → Type 0) (Loud : Type 0) (Q : Reque
 
   -- ---- operands
 
-  there-in : (c : Core) → I c → (a : Address) → Reaches Sd (cellThere a (c .cells))
-  unfolding cellThere
+  there-in : (c : Core) → I c → (a : Address) → GivesSd (cellThere a (c .cells))
+  unfolding cellThere readThere
   there-in c i (At n) = weak (get (c .cells) n) (get-in c i n)
     where
-      weak : (f : Found) → Reaches (λ (v : Cell). Sd v × (n < 10000)) f → Reaches Sd f
+      weak : (f : Found) → Reaches (λ (v : Cell). Sd v × (n < 10000)) f → GivesSd (readThere f)
       weak (Here v) h = h .0
       weak Outside h = tt
   there-in c i NotAddress = tt
 
-  cell-in : (x : Operand) (c : Core) → I c → Reaches Sd (extractCell x (c .cells) (c .regs))
+  cell-in : (x : Operand) (c : Core) → I c → GivesSd (extractCell x (c .cells) (c .regs))
   unfolding extractCell
   cell-in none c i = tt
   cell-in (imm w) c i = L .wordS w
@@ -284,13 +297,19 @@ module _ (I : Core → Type 0) (Sd : Cell → Type 0) (Loud : Type 0) (Q : Reque
   cell-in (idx r k) c i = there-in c i _
 
   k-cell : (x : Operand) → Keeps Sd (cellOf x)
-  k-cell x = record { at = λ c i. good-cell Sd (extractCell x (c .cells) (c .regs)) Extract c (cell-in x c i) i }
+  k-cell x = record { at = λ c i. good-given (extractCell x (c .cells) (c .regs)) c (cell-in x c i) i }
+
+  k-orWord : (w : Word) (e : Error) → Keeps Any (orWord w e)
+  k-orWord w e = record { at = λ c i. good-word w e c i }
+
+  k-orAddress : (a : Address) (e : Error) → AddressIn a → Keeps Addr (orAddress a e)
+  k-orAddress a e h = record { at = λ c i. good-address a e c h i }
 
   k-word : (x : Operand) → Keeps Any (wordOf x)
-  k-word x = record { at = λ c i. good-word _ Extract c i }
+  k-word x = seq (k-cell x) (λ v s. k-orWord (extractWord v) Extract)
 
   k-target : (x : Operand) → Keeps Addr (targetOf x)
-  k-target x = record { at = λ c i. good-address _ Extract c (asAddress-in (operandWord x (c .cells) (c .regs))) i }
+  k-target x = seq (k-word x) (λ w h. k-orAddress (addressOf w) Extract (addressOf-in w))
 
   k-register : (r : Reg) → Keeps Any (registerWord r)
   k-register r = record { at = λ c i. good-word _ Extract c i }

@@ -10,6 +10,8 @@ use Rattle.definition.specs.declared.Address.{Address}
 use Rattle.definition.specs.declared.Address.the-variants.{At, NotAddress}
 use Rattle.definition.specs.declared.Found.{Found}
 use Rattle.definition.specs.declared.Found.the-variants.{Here, Outside}
+use Rattle.definition.specs.declared.Given.{Given}
+use Rattle.definition.specs.declared.Given.the-variants.{Gives, OutsideCells, NoAddress}
 use Rattle.definition.specs.Word.{wrap, addressOf}
 use Rattle.definition.specs.Memory.{word, extractWord, extractAddress, get}
 use Rattle.definition.specs.Registers.{Reg, regAt, getReg}
@@ -45,23 +47,21 @@ resolve (dir w) s = addressOf w
 resolve (ind r) s = extractAddress (getReg r s)
 resolve (idx r k) s = indexed (extractWord (getReg r s)) k
 
-unfoldable pub cellThere : Address → List ℤ → Found
-cellThere (At n) l = get l n
-cellThere NotAddress l = Outside
+-- "not below the count of cells"
+unfoldable pub readThere : Found → Given
+readThere (Here v) = Gives v
+readThere Outside = OutsideCells
 
--- ExtractValue: the cell that an operand gives.
-unfoldable pub extractCell : Operand → List ℤ → Registers → Found
-extractCell none l s = Outside
-extractCell (imm w) l s = Here (word w)
-extractCell (reg r) l s = Here (getReg r s)
+-- The cell at an address: there is none at an address outside, nor where the word is no address.
+unfoldable pub cellThere : Address → List ℤ → Given
+cellThere (At n) l = readThere (get l n)
+cellThere NotAddress l = NoAddress
+
+-- ExtractValue: the cell that an operand gives. Its word is taken apart from it, as the Rust does (Instructions: `wordOf`).
+unfoldable pub extractCell : Operand → List ℤ → Registers → Given
+extractCell none l s = NoAddress
+extractCell (imm w) l s = Gives (word w)
+extractCell (reg r) l s = Gives (getReg r s)
 extractCell (dir w) l s = cellThere (resolve (dir w) s) l
 extractCell (ind r) l s = cellThere (resolve (ind r) s) l
 extractCell (idx r k) l s = cellThere (resolve (idx r k) s) l
-
-unfoldable pub wordThere : Found → Word
-wordThere (Here v) = extractWord v
-wordThere Outside = NotWord
-
--- The word that an operand gives.
-unfoldable pub operandWord : Operand → List ℤ → Registers → Word
-operandWord x l s = wordThere (extractCell x l s)

@@ -1,6 +1,6 @@
--- "Course cases": the starred ones as one table, shr beside shl, with five more rows: 255 and 256 cells, a privileged instruction in user
--- mode, an interrupt, and an exception beside a pending interrupt. The rows of 10,000 cells cost the most to compute, and stand last. The
--- proof is proofs/Course.
+-- "Course cases": the starred ones as one table, shr beside shl, with more rows: 255 and 256 cells, a privileged instruction in user mode,
+-- an interrupt, an exception beside a pending interrupt, and what each request of document 02 adds to the machine. The rows of 10,000 cells
+-- cost the most to compute, and stand last. The proof is proofs/Course.
 use mathlib.Core.Path.{_≡_}
 use mathlib.Core.List.{List, [], _∷_}
 use Prim.Native.Nat.{ℕ, _*_}
@@ -76,7 +76,8 @@ pub record Row : Type 0 where
 abbrev gives : Case → Shown → Row
 gives c s = record { given = c; expected = s }
 
--- add 5,%a · reset · div n,%a · shl n,%a · shr n,%a · nop · push 7 · swap [%a],%a · fas [5],%sr · ld [10000],%a · st %a,[10000] · in [110],%a
+-- add 5,%a · reset · div n,%a · shl n,%a · shr n,%a · nop · push 7 · swap [%a],%a · fas [5],%sr · ld [10000],%a · ld [%a],%a · call [10000] · st %a,[10000] ·
+-- in [110],%a
 abbrev add5 : Cell
 add5 = cell (pos 202) (pos 5) (pos 0)
 
@@ -106,6 +107,12 @@ fasSr = inst 5 3 2 0 4 (pos 5) (pos 0)
 
 abbrev ldOutside : Cell
 ldOutside = inst 14 3 2 0 0 (pos 10000) (pos 0)
+
+abbrev ldA : Cell
+ldA = inst 14 4 2 0 0 (pos 0) (pos 0)
+
+abbrev callOutside : Cell
+callOutside = inst 2 3 0 0 0 (pos 10000) (pos 0)
 
 abbrev stOutside : Cell
 stOutside = inst 28 2 3 0 0 (pos 0) (pos 10000)
@@ -154,10 +161,20 @@ table =
     ∷ gives
     (interrupted 256 (line 0 (div (pos 0)) ∷ line 200 nop ∷ []) 102)
     (record { refusal = 0; stop = 0; detail = 0; steps = 1; pc = pos 200; sp = pos 0; sr = pos 768; cycles = pos 1; pending = pos 1; written = pos 0; a = empty; b = empty; there = word (pos 1) })
+    -- "An operand read at an address not below the count of cells raises code 5": ld [%a],%a with 256 cells, up to the largest address
+    ∷ gives (case 256 (line 0 ldA ∷ []) (word (pos 255)) 0 0 1 0) (done 0 0 1 (pos 1) (pos 0) (pos 0) (pos 2) empty ldA)
+    ∷ gives (case 256 (line 0 ldA ∷ []) (word (pos 256)) 0 0 1 0) (done 2 5 0 (pos 1) (pos 0) (pos 0) (pos 0) (word (pos 256)) ldA)
+    ∷ gives (case 256 (line 0 ldA ∷ []) (word (pos 4294967295)) 0 0 1 0) (done 2 5 0 (pos 1) (pos 0) (pos 0) (pos 0) (word (pos 4294967295)) ldA)
+    -- "A negative or too large word used as an address stops as before."
+    ∷ gives (case 256 (line 0 ldA ∷ []) (word (negsuc 0)) 0 0 1 0) (done 4 0 0 (pos 1) (pos 0) (pos 0) (pos 0) (word (negsuc 0)) ldA)
+    ∷ gives (case 256 (line 0 ldA ∷ []) (word (pos 4294967296)) 0 0 1 0) (done 4 0 0 (pos 1) (pos 0) (pos 0) (pos 0) (word (pos 4294967296)) ldA)
+    -- "with all earlier effects of the instruction standing": call [10000] has pushed
+    ∷ gives (case 256 (line 0 callOutside ∷ []) empty 0 10 1 9) (done 2 5 0 (pos 1) (pos 9) (pos 0) (pos 0) empty one)
     -- "pc 9,999 fetches, 10,000 code 5"
     ∷ gives (case 10000 (line 9999 nop ∷ []) empty 9999 0 2 9999) (done 2 5 1 (pos 10000) (pos 0) (pos 0) (pos 1) empty nop)
-    -- "ld [10000],%a: stop 4; st to it: code 5": the handler of the one is the other
-    ∷ gives (case 10000 (line 9998 stOutside ∷ line 200 ldOutside ∷ []) empty 9998 0 2 102) (done 4 0 1 (pos 201) (pos 0) (pos 512) (pos 1) empty (word (pos 5)))
+    -- "The `ld [10000],%a` case becomes code 5"; "st to it: code 5"
+    ∷ gives (case 10000 (line 9998 ldOutside ∷ []) empty 9998 0 1 9998) (done 2 5 0 (pos 9999) (pos 0) (pos 0) (pos 0) empty ldOutside)
+    ∷ gives (case 10000 (line 9998 stOutside ∷ line 200 nop ∷ []) empty 9998 0 1 102) (done 0 0 1 (pos 200) (pos 0) (pos 512) (pos 1) empty (word (pos 5)))
     ∷ []
 
 -- ---- what a case gives

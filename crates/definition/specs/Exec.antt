@@ -13,8 +13,10 @@ use Rattle.definition.specs.declared.Address.{Address}
 use Rattle.definition.specs.declared.Address.the-variants.{At, NotAddress}
 use Rattle.definition.specs.declared.Found.{Found}
 use Rattle.definition.specs.declared.Found.the-variants.{Here, Outside}
+use Rattle.definition.specs.declared.Given.{Given}
+use Rattle.definition.specs.declared.Given.the-variants.{Gives, OutsideCells, NoAddress}
 use Rattle.definition.specs.declared.Error.{Error}
-use Rattle.definition.specs.declared.Error.the-variants.{PrivilegedInstruction, InvalidMemoryAccess}
+use Rattle.definition.specs.declared.Error.the-variants.{PrivilegedInstruction, InvalidMemoryAccess, Extract}
 use Rattle.definition.specs.Memory.{cellCount, putCell, get}
 use Rattle.definition.specs.Registers.{Put, assigned, refused, supervisor, with-sp}
 
@@ -83,6 +85,12 @@ orAddress NotAddress e = raise e
 unfoldable pub orCell : Found → Error → Exec Cell
 orCell (Here v) e = return v
 orCell Outside e = raise e
+
+-- "An operand read at an address not below the count of cells raises code 5"; "any other operand [...] that cannot be taken is stop 4".
+unfoldable pub orGiven : Given → Exec Cell
+orGiven (Gives v) = return v
+orGiven OutsideCells = raise InvalidMemoryAccess
+orGiven NoAddress = raise Extract
 
 unfoldable pub orPut : Put → Exec (Unit {0})
 orPut (assigned s) = λ c. ok tt (with-regs s c)

@@ -10,24 +10,28 @@ use Rattle.definition.specs.declared.Quotient.{Quotient}
 use Rattle.definition.specs.declared.Quotient.the-variants.{Rounded, NoQuotient}
 use Rattle.definition.specs.declared.Error.the-variants.{DivByZero, InvalidInstruction, Trap, InvalidMemoryAccess, CellError, Extract, Reset}
 use Rattle.definition.specs.Constants.{ZERO, NEGATIVE, OVERFLOW, INTERRUPT-PC-SAVE, INTERRUPT-SR-SAVE}
-use Rattle.definition.specs.Word.{eqZ, wrapped, quotient, isShift, shlW, shrW, andW, orW, xorW, notW, bit}
-use Rattle.definition.specs.Memory.{word, extractWord, extractAddress, asAddress}
+use Rattle.definition.specs.Word.{eqZ, addressOf, wrapped, quotient, isShift, shlW, shrW, andW, orW, xorW, notW, bit}
+use Rattle.definition.specs.Memory.{word, extractWord, extractAddress}
 use Rattle.definition.specs.Registers.{Reg, getReg, putReg, Put, assigned, refused, putFlag, with-pc, with-sr}
-use Rattle.definition.specs.Arguments.{Operand, none, imm, reg, dir, ind, idx, resolve, extractCell, operandWord}
-use Rattle.definition.specs.Exec.{Exec, _>>=_, _>>_, return, raise, branch, ask, change, orWord, orAddress, orCell, assign, read, write, checkPrivileged, push, pop}
+use Rattle.definition.specs.Arguments.{Operand, none, imm, reg, dir, ind, idx, resolve, extractCell}
+use Rattle.definition.specs.Exec.{Exec, _>>=_, _>>_, return, raise, branch, ask, change, orWord, orAddress, orGiven, assign, read, write, checkPrivileged, push, pop}
 use Rattle.definition.specs.Encoding as E
 use Rattle.definition.specs.Encoding.{Op, Instruction}
 
 -- An operand's cell, word or address, and the word of a register: "any other operand, register or jump target that cannot be taken is
 -- stop 4".
 abbrev pub cellOf : Operand → Exec Cell
-cellOf x = λ c. orCell (extractCell x (c .cells) (c .regs)) Extract c
+cellOf x = λ c. orGiven (extractCell x (c .cells) (c .regs)) c
 
 abbrev pub wordOf : Operand → Exec ℤ
-wordOf x = λ c. orWord (operandWord x (c .cells) (c .regs)) Extract c
+wordOf x = do
+  v ← cellOf x
+  orWord (extractWord v) Extract
 
 abbrev pub targetOf : Operand → Exec ℕ
-targetOf x = λ c. orAddress (asAddress (operandWord x (c .cells) (c .regs))) Extract c
+targetOf x = do
+  w ← wordOf x
+  orAddress (addressOf w) Extract
 
 abbrev pub registerWord : Reg → Exec ℤ
 registerWord r = λ c. orWord (extractWord (getReg r (c .regs))) Extract c

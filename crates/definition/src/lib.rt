@@ -42,6 +42,13 @@ pub enum Found {
     Outside,
 }
 
+// The cell that an operand gives. Where it gives none, its address is outside the cells, or it has no address.
+pub enum Given {
+    Gives(Cell),
+    OutsideCells,
+    NoAddress,
+}
+
 // A result wrapped at 64 bits, and whether it had to be.
 pub struct Wrapped {
     pub value: i64,

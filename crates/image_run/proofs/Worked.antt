@@ -8,10 +8,10 @@ use Rattle.definition.specs.Word.{wrap, isWord, wrapped, addressOf, bit, putBit
 use Rattle.definition.specs.Exception.{ending}
 use Rattle.definition.specs.Memory.{wordAt, extractWord, isInstruction, cellAt, putCell, found, get}
 use Rattle.definition.specs.Registers.{regAt, supervisor, interruptEnable, getReg, putPc, putSp, putSr, putReg}
-use Rattle.definition.specs.Arguments.{operand, modeCost, cellThere, extractCell, wordThere, operandWord}
+use Rattle.definition.specs.Arguments.{operand, modeCost, readThere, cellThere, extractCell}
 use Rattle.definition.specs.Encoding.{opAt, allows, signature, legal, cost, decode, instructionAt, extractInstruction, registerFits, isAddress, numberFits, soundInstruction, soundAt, sound}
 use Rattle.definition.specs.Io.{outputFull}
-use Rattle.definition.specs.Exec.{andThen, branch, orWord, orCell, orPut, checkPrivileged}
+use Rattle.definition.specs.Exec.{andThen, branch, orWord, orCell, orGiven, orPut, checkPrivileged}
 use Rattle.definition.specs.Instructions.{andFlags, putResult, putWrapped, words, reset, quiet, outOp, execute}
 use Rattle.definition.specs.Runtime.{orInstruction, fetch, attempt, ends, poll, conclude, serve, afterAttempt, turn, hasHandler, settle, reached, limit, step, later, goOn, run}
 use Rattle.definition.specs.Calls.{machineOf, rowOf, verdict, isBelow, isMark, lowestDamaged, cellsTest, queueTest, outputTest, lengthTest, rowTests, damageTest, runCheck, ran, runCall}
@@ -39,7 +39,7 @@ unfolding readText R.step letter openingByte valueOf digit comma minus plain wit
 read = refl
 
 shown : imageText cells (startOf (pos 0) (pos 0) (pos 0)) ≡ output
-unfolding wrap isWord wrapped addressOf bit putBit lowByte ending wordAt extractWord isInstruction cellAt putCell found get regAt supervisor interruptEnable getReg putPc putSp putSr putReg operand modeCost cellThere extractCell wordThere operandWord opAt allows signature legal cost decode instructionAt extractInstruction registerFits isAddress numberFits soundInstruction soundAt sound outputFull andThen branch orWord orCell orPut checkPrivileged andFlags putResult putWrapped words reset quiet outOp execute orInstruction fetch attempt ends poll conclude serve afterAttempt turn hasHandler settle reached limit step later goOn run machineOf rowOf verdict isBelow isMark lowestDamaged cellsTest queueTest outputTest lengthTest rowTests damageTest runCheck ran runCall decimalIn numeral fields line answerText registersText cellsText runText imageRun imageText
+unfolding wrap isWord wrapped addressOf bit putBit lowByte ending wordAt extractWord isInstruction cellAt putCell found get regAt supervisor interruptEnable getReg putPc putSp putSr putReg operand modeCost readThere cellThere extractCell opAt allows signature legal cost decode instructionAt extractInstruction registerFits isAddress numberFits soundInstruction soundAt sound outputFull andThen branch orWord orCell orGiven orPut checkPrivileged andFlags putResult putWrapped words reset quiet outOp execute orInstruction fetch attempt ends poll conclude serve afterAttempt turn hasHandler settle reached limit step later goOn run machineOf rowOf verdict isBelow isMark lowestDamaged cellsTest queueTest outputTest lengthTest rowTests damageTest runCheck ran runCall decimalIn numeral fields line answerText registersText cellsText runText imageRun imageText
 shown = refl
 
 pub worked : printed input ≡ output

@@ -6,19 +6,20 @@ use Prim.Native.Nat.{ℕ}
 use lib.IntN.{ℤ, natAbs}
 use Rattle.definition.specs.declared.Registers.{Registers}
 use Rattle.definition.specs.declared.Error.{Error}
-use Rattle.definition.specs.declared.Error.the-variants.{InvalidInstruction}
+use Rattle.definition.specs.declared.Error.the-variants.{InvalidInstruction, Extract}
 use Rattle.definition.specs.Word.{isShift}
 use Rattle.definition.specs.Registers as R
 use Rattle.definition.specs.Registers.{Reg, assigned, refused}
 use Rattle.definition.specs.Arguments.{Operand}
 use Rattle.definition.specs.Exec.{Res, Exec, core, ok, err, andThen, _>>=_, return, assign}
-use Rattle.definition.specs.Instructions.{andFlags, putResult, putShifted, wordOf, registerWord, words}
+use Rattle.definition.specs.Instructions.{andFlags, putResult, putShifted, cellOf, wordOf, registerWord, words}
 use Rattle.registers.specs.declared.Put.{Put}
 use Rattle.registers.specs.Meaning.{settled, result, putRes}
 use Rattle.registers.proofs.Laws.{settled-is, then-ok, then-err}
 use Rattle.arguments.specs.declared.taken.WordTaken.{WordTaken}
-use Rattle.arguments.specs.Taken.{tookWord}
-use Rattle.arguments.proofs.Laws.{word-of-is, register-word-is, word-ok, word-err}
+use Rattle.arguments.specs.declared.taken.CellTaken.{CellTaken}
+use Rattle.arguments.specs.Taken.{tookWord, tookCell, cellRes}
+use Rattle.arguments.proofs.Laws.{wordIn, in-cell-is, cell-of-is, register-word-is, word-ok, word-err}
 use Rattle.operations.specs.declared.Two.{Two}
 use Rattle.operations.specs.Two.{twoWords, tookTwo, twoRes}
 
@@ -64,7 +65,7 @@ assigned-to k p = assign (k (p .0) (p .1))
 abbrev Is-two : List ℤ → Res (ℤ × ℤ) → Type 0
 Is-two l m = twoRes l (tookTwo m) ≡ m
 
-module _ (l : List ℤ) (x : Operand) (r : Reg) where
+module _ (l : List ℤ) (r : Reg) where
   two-second : (v : ℤ) (b : Bool) (w : ℤ) (e : Error) (s : Registers) → Is-two l (andThen (result w b e (core l s)) (pair v))
   unfolding andThen
   two-second v true w e s = refl
@@ -77,13 +78,13 @@ module _ (l : List ℤ) (x : Operand) (r : Reg) where
       subst (λ (m : Res ℤ). Is-two l (andThen m (pair v))) (register-word-is l s r t refl) (two-second v (t .ok) (t .value) (t .error) (t .s))
   two-first false v e s = refl
 
-  two-is : (s : Registers) → Is-two l (twoWords x r (core l s))
+  two-is : (c : CellTaken) → Is-two l (twoWords r (cellRes l c))
   unfolding twoWords
-  two-is s =
-      let t = tookWord (wordOf x (core l s)) in
-      subst (λ (m : Res ℤ). Is-two l (andThen m (second r))) (word-of-is l s x t refl) (two-first (t .ok) (t .value) (t .error) (t .s))
+  two-is c =
+      let t = tookWord (andThen (cellRes l c) (wordIn Extract)) in
+      subst (λ (m : Res ℤ). Is-two l (andThen m (second r))) (in-cell-is l Extract c t refl) (two-first (t .ok) (t .value) (t .error) (t .s))
 
-  module _ (k : ℤ → ℤ → Registers → R.Put) where
+  module _ (x : Operand) (k : ℤ → ℤ → Registers → R.Put) where
     words-second : (v : ℤ) (m : Res ℤ) → andThen (andThen m (pair v)) (assigned-to k) ≡ andThen m (λ w. assign (k v w))
     unfolding andThen
     words-second v (ok w c) = refl
@@ -94,13 +95,16 @@ module _ (l : List ℤ) (x : Operand) (r : Reg) where
     words-first (ok v c) = words-second v (registerWord r c)
     words-first (err e c) = refl
 
-    words-are : (s : Registers) → andThen (twoWords x r (core l s)) (assigned-to k) ≡ words x r k (core l s)
+    words-are : (s : Registers) → andThen (twoWords r (cellOf x (core l s))) (assigned-to k) ≡ words x r k (core l s)
     unfolding twoWords words
     words-are s = words-first (wordOf x (core l s))
 
-    module _ (s : Registers) (t : Two) (h : t ≡ tookTwo (twoWords x r (core l s))) (q : Put) where
+    module _ (s : Registers) (c : CellTaken) (g : c ≡ tookCell (cellOf x (core l s))) (t : Two) (h : t ≡ tookTwo (twoWords r (cellRes l c))) (q : Put) where
+      two-taken : twoRes l t ≡ twoWords r (cellOf x (core l s))
+      two-taken = ap (twoRes l) h ∙ two-is c ∙ ap (twoWords r) (cell-of-is l s x c g)
+
       pub words-put : t .ok ≡ true → q ≡ settled (t .s) (k (t .v) (t .w) (t .s)) → putRes l q ≡ words x r k (core l s)
-      words-put e f = then-ok (t .v, t .w) (t .ok) (t .error) (core l (t .s)) (ap (twoRes l) h ∙ two-is s) (assigned-to k) e (ap (putRes l) f ∙ settled-is (t .s) l (k (t .v) (t .w) (t .s))) ∙ words-are s
+      words-put e f = then-ok (t .v, t .w) (t .ok) (t .error) (core l (t .s)) two-taken (assigned-to k) e (ap (putRes l) f ∙ settled-is (t .s) l (k (t .v) (t .w) (t .s))) ∙ words-are s
 
       pub words-none : t .ok ≡ false → q ≡ settled (t .s) (refused (t .error)) → putRes l q ≡ words x r k (core l s)
-      words-none e f = then-err (t .v, t .w) (t .ok) (t .error) (core l (t .s)) (ap (twoRes l) h ∙ two-is s) (assigned-to k) e (ap (putRes l) f) ∙ words-are s
+      words-none e f = then-err (t .v, t .w) (t .ok) (t .error) (core l (t .s)) two-taken (assigned-to k) e (ap (putRes l) f) ∙ words-are s

@@ -1,5 +1,6 @@
 // instructions.rs, its arithmetic: what a result does to the registers, and (words.rt) the instructions that compute on words.
-use arguments::Arg;
+use arguments::taken;
+use arguments::taken::CellTaken;
 use definition::Error;
 use definition::Quotient;
 use definition::Registers;
@@ -7,13 +8,13 @@ use definition::Wrapped;
 use registers::Put;
 ghost use mathlib.Core.Path.{_≡_};
 ghost use Prim.Native.Nat.{_<_};
-ghost use lib.IntN.{pos};
+ghost use mathlib.Core.List.{List};
+ghost use lib.IntN.{ℤ, pos};
 ghost use mathlib.Core.Bool.{false};
 ghost use Rattle.definition.specs.Registers.{regAt};
 ghost use Rattle.definition.specs.Instructions.{signFlags, putResult, putWrapped, putCompared, putQuotient, putShifted};
 ghost use Rattle.registers.specs.Meaning.{settled};
-ghost use Rattle.definition.specs.Exec.{core};
-ghost use Rattle.arguments.specs.Operands.{argOf};
+ghost use Rattle.arguments.specs.Taken.{cellRes};
 ghost use Rattle.operations.specs.Two.{twoWords, tookTwo, shiftW};
 
 pub mod words;
@@ -39,11 +40,12 @@ fn no_words(s: Registers, error: Error) -> Two
     }
 }
 
-// The operand's word, then the register's.
-pub fn two_words(cells: &[i64], s: Registers, x: Arg, r: u32) -> Two
-    ensures { λ t. ⌜ t ≡ tookTwo (twoWords (argOf x) (regAt r) (core (now (cells .entry)) s)) ⌝ }
+// The word of the operand's cell, which was taken, then the register's. Reading the cell stands apart, so that each half is small enough to be compiled in line
+// in the ten instructions.
+pub fn two_words(given: CellTaken, r: u32) -> Two
+    ensures { λ t. ⌜ ((l : List ℤ) → t ≡ tookTwo (twoWords (regAt r) (cellRes l given))) ⌝ }
 {
-    let first = arguments::word_of(cells, s, x);
+    let first = taken::word_in(given, Error::Extract);
     let between = first.s;
     if first.ok {
         let second = arguments::register_word(between, r);

@@ -15,7 +15,7 @@ ghost use Rattle.arguments.specs.Operands.{argOf};
 pub fn add(cells: &[i64], s: Registers, x: Arg, r: u32) -> Put
     ensures { λ q. ⌜ putRes (now (cells .entry)) q ≡ words (argOf x) (regAt r) (λ v w. putWrapped (regAt r) (wrapped (v +ℤ w))) (core (now (cells .entry)) s) ⌝ }
 {
-    let t = crate::two_words(cells, s, x, r);
+    let t = crate::two_words(arguments::cell_of(cells, s, x), r);
     let u = t.s;
     if t.ok {
         crate::put_wrapped(u, r, word::add(t.v, t.w))
@@ -28,7 +28,7 @@ pub fn add(cells: &[i64], s: Registers, x: Arg, r: u32) -> Put
 pub fn sub(cells: &[i64], s: Registers, x: Arg, r: u32) -> Put
     ensures { λ q. ⌜ putRes (now (cells .entry)) q ≡ words (argOf x) (regAt r) (λ v w. putWrapped (regAt r) (wrapped (w -ℤ v))) (core (now (cells .entry)) s) ⌝ }
 {
-    let t = crate::two_words(cells, s, x, r);
+    let t = crate::two_words(arguments::cell_of(cells, s, x), r);
     let u = t.s;
     if t.ok {
         crate::put_wrapped(u, r, word::sub(t.w, t.v))
@@ -41,7 +41,7 @@ pub fn sub(cells: &[i64], s: Registers, x: Arg, r: u32) -> Put
 pub fn mul(cells: &[i64], s: Registers, x: Arg, r: u32) -> Put
     ensures { λ q. ⌜ putRes (now (cells .entry)) q ≡ words (argOf x) (regAt r) (λ v w. putWrapped (regAt r) (wrapped (v *ℤ w))) (core (now (cells .entry)) s) ⌝ }
 {
-    let t = crate::two_words(cells, s, x, r);
+    let t = crate::two_words(arguments::cell_of(cells, s, x), r);
     let u = t.s;
     if t.ok {
         crate::put_wrapped(u, r, word::mul(t.v, t.w))
@@ -54,7 +54,7 @@ pub fn mul(cells: &[i64], s: Registers, x: Arg, r: u32) -> Put
 pub fn and(cells: &[i64], s: Registers, x: Arg, r: u32) -> Put
     ensures { λ q. ⌜ putRes (now (cells .entry)) q ≡ words (argOf x) (regAt r) (λ v w. putResult (regAt r) (andW v w)) (core (now (cells .entry)) s) ⌝ }
 {
-    let t = crate::two_words(cells, s, x, r);
+    let t = crate::two_words(arguments::cell_of(cells, s, x), r);
     let u = t.s;
     if t.ok {
         crate::put_result(u, r, word::and(t.v, t.w))
@@ -67,7 +67,7 @@ pub fn and(cells: &[i64], s: Registers, x: Arg, r: u32) -> Put
 pub fn or(cells: &[i64], s: Registers, x: Arg, r: u32) -> Put
     ensures { λ q. ⌜ putRes (now (cells .entry)) q ≡ words (argOf x) (regAt r) (λ v w. putResult (regAt r) (orW v w)) (core (now (cells .entry)) s) ⌝ }
 {
-    let t = crate::two_words(cells, s, x, r);
+    let t = crate::two_words(arguments::cell_of(cells, s, x), r);
     let u = t.s;
     if t.ok {
         crate::put_result(u, r, word::or(t.v, t.w))
@@ -80,7 +80,7 @@ pub fn or(cells: &[i64], s: Registers, x: Arg, r: u32) -> Put
 pub fn xor(cells: &[i64], s: Registers, x: Arg, r: u32) -> Put
     ensures { λ q. ⌜ putRes (now (cells .entry)) q ≡ words (argOf x) (regAt r) (λ v w. putResult (regAt r) (xorW v w)) (core (now (cells .entry)) s) ⌝ }
 {
-    let t = crate::two_words(cells, s, x, r);
+    let t = crate::two_words(arguments::cell_of(cells, s, x), r);
     let u = t.s;
     if t.ok {
         crate::put_result(u, r, word::xor(t.v, t.w))
@@ -93,7 +93,7 @@ pub fn xor(cells: &[i64], s: Registers, x: Arg, r: u32) -> Put
 pub fn div(cells: &[i64], s: Registers, x: Arg, r: u32) -> Put
     ensures { λ q. ⌜ putRes (now (cells .entry)) q ≡ words (argOf x) (regAt r) (λ v w. putQuotient (regAt r) (quotient w v)) (core (now (cells .entry)) s) ⌝ }
 {
-    let t = crate::two_words(cells, s, x, r);
+    let t = crate::two_words(arguments::cell_of(cells, s, x), r);
     let u = t.s;
     if t.ok {
         crate::put_quotient(u, r, word::div(t.w, t.v))
@@ -106,7 +106,7 @@ pub fn div(cells: &[i64], s: Registers, x: Arg, r: u32) -> Put
 pub fn shl(cells: &[i64], s: Registers, x: Arg, r: u32) -> Put
     ensures { λ q. ⌜ putRes (now (cells .entry)) q ≡ words (argOf x) (regAt r) (putShifted shlW (regAt r)) (core (now (cells .entry)) s) ⌝ }
 {
-    let t = crate::two_words(cells, s, x, r);
+    let t = crate::two_words(arguments::cell_of(cells, s, x), r);
     let u = t.s;
     if t.ok {
         crate::put_shifted(u, r, true, t.v, t.w)
@@ -119,7 +119,7 @@ pub fn shl(cells: &[i64], s: Registers, x: Arg, r: u32) -> Put
 pub fn shr(cells: &[i64], s: Registers, x: Arg, r: u32) -> Put
     ensures { λ q. ⌜ putRes (now (cells .entry)) q ≡ words (argOf x) (regAt r) (putShifted shrW (regAt r)) (core (now (cells .entry)) s) ⌝ }
 {
-    let t = crate::two_words(cells, s, x, r);
+    let t = crate::two_words(arguments::cell_of(cells, s, x), r);
     let u = t.s;
     if t.ok {
         crate::put_shifted(u, r, false, t.v, t.w)
@@ -132,7 +132,7 @@ pub fn shr(cells: &[i64], s: Registers, x: Arg, r: u32) -> Put
 pub fn cmp(cells: &[i64], s: Registers, x: Arg, r: u32) -> Put
     ensures { λ q. ⌜ putRes (now (cells .entry)) q ≡ words (argOf x) (regAt r) (putCompared) (core (now (cells .entry)) s) ⌝ }
 {
-    let t = crate::two_words(cells, s, x, r);
+    let t = crate::two_words(arguments::cell_of(cells, s, x), r);
     let u = t.s;
     if t.ok {
         crate::put_compared(u, t.v, t.w)

@@ -25,30 +25,37 @@ const ON_PC: Outcome = Stopped(stop::INVALID_REGISTER, PC as u64);
 const ON_SP: Outcome = Stopped(stop::INVALID_REGISTER, SP as u64);
 const ON_SR: Outcome = Stopped(stop::INVALID_REGISTER, SR as u64);
 
-/// Every outcome with the count of forms (of the 124, and the fetch) that it is possible for.
-pub const OUTCOMES: [(Outcome, usize); 21] = [
-    (Done, 122),
-    (Interrupt, 122),
-    (Entered(code::DIV_BY_ZERO), 5),
-    (Entered(code::INVALID_INSTRUCTION), 11),
-    (Entered(code::PRIVILEGED_INSTRUCTION), 70),
-    (Entered(code::TRAP), 1),
-    (Entered(code::INVALID_MEMORY_ACCESS), 18),
-    (Unhandled(code::HARDWARE_INTERRUPT), 122),
-    (Unhandled(code::DIV_BY_ZERO), 5),
-    (Unhandled(code::INVALID_INSTRUCTION), 11),
-    (Unhandled(code::PRIVILEGED_INSTRUCTION), 70),
-    (Unhandled(code::TRAP), 1),
-    (Unhandled(code::INVALID_MEMORY_ACCESS), 18),
-    (Stopped(stop::RESET, 0), 1),
-    (Stopped(stop::CELL_ERROR, 0), 14),
-    (Stopped(stop::EXTRACT, 0), 104),
-    (ON_PC, 50),
-    (ON_SP, 50),
-    (ON_SR, 12),
-    (Stopped(stop::OUTPUT_FULL, 0), 6),
-    (Stopped(stop::CYCLES_FULL, 0), 124),
+/// Every outcome with the count of forms (of the 124, and the fetch) that the original can come to it with, and the count of those
+/// that come to it by reading an operand outside the cells, where the original has no answer (document 02, Card 9).
+pub const OUTCOMES: [(Outcome, usize, usize); 21] = [
+    (Done, 122, 0),
+    (Interrupt, 122, 0),
+    (Entered(code::DIV_BY_ZERO), 5, 0),
+    (Entered(code::INVALID_INSTRUCTION), 11, 0),
+    (Entered(code::PRIVILEGED_INSTRUCTION), 70, 0),
+    (Entered(code::TRAP), 1, 0),
+    (Entered(code::INVALID_MEMORY_ACCESS), 18, 60),
+    (Unhandled(code::HARDWARE_INTERRUPT), 122, 0),
+    (Unhandled(code::DIV_BY_ZERO), 5, 0),
+    (Unhandled(code::INVALID_INSTRUCTION), 11, 0),
+    (Unhandled(code::PRIVILEGED_INSTRUCTION), 70, 0),
+    (Unhandled(code::TRAP), 1, 0),
+    (Unhandled(code::INVALID_MEMORY_ACCESS), 18, 60),
+    (Stopped(stop::RESET, 0), 1, 0),
+    (Stopped(stop::CELL_ERROR, 0), 14, 0),
+    (Stopped(stop::EXTRACT, 0), 104, 0),
+    (ON_PC, 50, 0),
+    (ON_SP, 50, 0),
+    (ON_SR, 12, 0),
+    (Stopped(stop::OUTPUT_FULL, 0), 6, 0),
+    (Stopped(stop::CYCLES_FULL, 0), 124, 60),
 ];
+
+/// (form, outcome) pairs: the original's, those of them that are no more, those that it cannot come to, and all that are possible.
+const IN_THE_ORIGINAL: usize = 937;
+const CEASED: usize = 2;
+const NEW: usize = 110;
+const PAIRS: usize = IN_THE_ORIGINAL - CEASED + NEW;
 
 pub fn outcome(step: &Step) -> Outcome {
     match (step.completed, step.entered) {
@@ -60,8 +67,31 @@ pub fn outcome(step: &Step) -> Outcome {
     }
 }
 
-/// Whether a form can come out so; no form is the fetch of what is no instruction.
-pub fn possible(form: Option<Form>, outcome: Outcome) -> bool {
+/// Whether a form can come out so in a step that reads an operand outside the cells, or in one that does not.
+pub fn possible(form: Option<Form>, outcome: Outcome, read_outside: bool) -> bool {
+    if read_outside { traps(form, outcome) } else { in_the_original(form, outcome) && !ceased(form, outcome) }
+}
+
+/// Whether an operand of this form is a cell of memory that is read, and outside raises code 5; where a full cycle count leaves no
+/// room for the entry, that is told first.
+fn traps(form: Option<Form>, outcome: Outcome) -> bool {
+    const CODE: u64 = code::INVALID_MEMORY_ACCESS;
+    let stands = matches!(outcome, Entered(CODE) | Unhandled(CODE) | Stopped(stop::CYCLES_FULL, _));
+    form.is_some_and(reads_memory) && stands
+}
+
+fn reads_memory(form: Form) -> bool {
+    form.m1 >= DIR && (matches!(form.op, CALL | JMP..=JGT | LD | SWAP) || TWO_WORDS.contains(&form.op))
+}
+
+/// The original's pairs that only a read outside came to: a direct operand is an address, and ld and swap carry any cell.
+fn ceased(form: Option<Form>, outcome: Outcome) -> bool {
+    outcome == Stopped(stop::EXTRACT, 0)
+        && form.is_some_and(|form| matches!(form.op, LD | SWAP) && form.m1 == DIR)
+}
+
+/// Whether the original can come out so with a form; no form is the fetch of what is no instruction.
+fn in_the_original(form: Option<Form>, outcome: Outcome) -> bool {
     match (form, outcome) {
         (None, Entered(code) | Unhandled(code)) => {
             code == code::INVALID_INSTRUCTION || code == code::INVALID_MEMORY_ACCESS
@@ -87,7 +117,7 @@ fn raises(form: Form, code: u64) -> bool {
         code::INVALID_INSTRUCTION => matches!(form.op, SHL | SHR),
         code::PRIVILEGED_INSTRUCTION => sets_register(form.op) || matches!(form.op, OUT | RTI),
         code::TRAP => form.op == TRAP,
-        // swap [direct] reads the same address before it writes there, so it stops with 4
+        // swap [direct] reads the same address before it writes there
         _ => matches!(form.op, CALL | FAS | POP | PUSH | RTN | ST) || form.op == SWAP && form.m1 >= IND,
     }
 }
@@ -130,7 +160,8 @@ fn leaves_addresses(form: Form) -> bool {
 pub struct Coverage {
     forms: Vec<Option<Form>>,
     place: Vec<usize>,
-    counts: Vec<[u64; OUTCOMES.len()]>,
+    /// In steps that the original answers, and in those that read an operand outside.
+    counts: [Vec<[u64; OUTCOMES.len()]>; 2],
 }
 
 impl Default for Coverage {
@@ -140,7 +171,7 @@ impl Default for Coverage {
         for (i, form) in all().iter().enumerate() {
             place[form.entry()] = i;
         }
-        let counts = vec![[0; OUTCOMES.len()]; forms.len()];
+        let counts = [(); 2].map(|()| vec![[0; OUTCOMES.len()]; forms.len()]);
         let coverage = Self { forms, place, counts };
         coverage.totals_agree();
         coverage
@@ -148,60 +179,102 @@ impl Default for Coverage {
 }
 
 impl Coverage {
-    /// The rule gives the counts that are required.
+    /// The rules give the counts that are required.
     fn totals_agree(&self) {
-        for (outcome, required) in OUTCOMES {
-            let total = self.forms.iter().filter(|form| possible(**form, outcome)).count();
-            assert_eq!(total, required, "{outcome:?}");
+        for (outcome, original, outside) in OUTCOMES {
+            let total = |rule: fn(Option<Form>, Outcome) -> bool| {
+                self.forms.iter().filter(|form| rule(**form, outcome)).count()
+            };
+            assert_eq!((total(in_the_original), total(traps)), (original, outside), "{outcome:?}");
         }
+        let total = |rule: fn(Option<Form>, Outcome) -> bool| {
+            self.pairs().filter(|pair| rule(pair.0, pair.1)).count()
+        };
+        assert_eq!(total(in_the_original), IN_THE_ORIGINAL);
+        assert_eq!(total(|form, outcome| in_the_original(form, outcome) && ceased(form, outcome)), CEASED);
+        assert_eq!(total(|form, outcome| traps(form, outcome) && !in_the_original(form, outcome)), NEW);
     }
 
-    /// Counts a step from the cell fetched; the pair's number, or what is wrong with it.
-    pub fn count(&mut self, fetched: Option<Cell>, outcome: Outcome) -> Result<usize, String> {
+    /// Every form with every outcome, possible or not.
+    fn pairs(&self) -> impl Iterator<Item = (Option<Form>, Outcome)> {
+        self.forms.iter().flat_map(|form| OUTCOMES.map(|(outcome, ..)| (*form, outcome)))
+    }
+
+    /// Counts a step from the cell fetched; how often its pair was met so, or what is wrong with it.
+    pub fn count(&mut self, fetched: Option<Cell>, step: &Step) -> Result<u64, String> {
+        let (outcome, read_outside) = (outcome(step), step.read_outside);
         let form = fetched.map(|cell| Form::of_tag(cell[0]).entry());
         let form = form.map_or(self.forms.len() - 1, |form| self.place[form]);
-        let column = OUTCOMES.iter().position(|(known, _)| *known == outcome);
+        let column = OUTCOMES.iter().position(|(known, ..)| *known == outcome);
         let column = column.ok_or(format!("no such outcome: {outcome:?}"))?;
-        if !possible(self.forms[form], outcome) {
-            return Err(format!("{} came out as {outcome:?}", self.name(form)));
+        if !possible(self.forms[form], outcome, read_outside) {
+            let told = if read_outside { " after a read outside" } else { "" };
+            return Err(format!("{} came out as {outcome:?}{told}", name(self.forms[form])));
         }
-        self.counts[form][column] += 1;
-        Ok(form * OUTCOMES.len() + column)
+        let count = &mut self.counts[usize::from(read_outside)][form][column];
+        *count += 1;
+        Ok(*count)
     }
 
-    /// How often a pair was counted.
-    pub fn reached(&self, pair: usize) -> u64 {
-        self.counts[pair / OUTCOMES.len()][pair % OUTCOMES.len()]
-    }
-
-    /// The possible pairs, and those of them not reached so often, by name.
-    pub fn missing(&self, times: u64) -> (usize, Vec<String>) {
-        let mut pairs = 0;
+    /// The possible pairs that were not reached so often, by name: those of steps that the original answers, and those of steps that
+    /// read an operand outside.
+    pub fn missing(&self, times: u64) -> Vec<String> {
         let mut missing = Vec::new();
-        for (form, counts) in self.counts.iter().enumerate() {
-            for ((outcome, _), count) in OUTCOMES.iter().zip(counts) {
-                if possible(self.forms[form], *outcome) {
-                    pairs += 1;
-                    if *count < times {
-                        missing.push(format!("{} {outcome:?}", self.name(form)));
-                    }
+        for read_outside in [false, true] {
+            let counts = self.counts[usize::from(read_outside)].iter().flatten();
+            for ((form, outcome), count) in self.pairs().zip(counts) {
+                if possible(form, outcome, read_outside) && *count < times {
+                    let told = if read_outside { " after a read outside" } else { "" };
+                    missing.push(format!("{} {outcome:?}{told}", name(form)));
                 }
             }
         }
-        (pairs, missing)
+        missing
+    }
+
+    /// The pairs reached in a step of either kind, of all that are possible.
+    pub fn reached(&self) -> (usize, usize) {
+        let [own, outside] = &self.counts;
+        let reached = own.iter().flatten().zip(outside.iter().flatten());
+        (reached.filter(|(own, outside)| **own + **outside > 0).count(), PAIRS)
     }
 
     /// The count of forms (the fetch apart) with any outcome, and how often the least of these was taken.
     pub fn forms_taken(&self) -> (usize, u64) {
-        let all = &self.counts[..self.counts.len() - 1];
+        let [own, outside] = &self.counts;
+        let all = own.iter().zip(outside).take(self.forms.len() - 1);
         let taken: Vec<u64> =
-            all.iter().map(|counts| counts.iter().sum()).filter(|times| *times > 0).collect();
+            all.map(|(own, outside)| own.iter().chain(outside).sum()).filter(|times| *times > 0).collect();
         (taken.len(), taken.iter().copied().min().unwrap_or(0))
     }
 
+    /// What of the pairs the original could be asked, where all were reached.
+    pub fn told(&self) -> Vec<String> {
+        let reached = |kind: usize| self.counts[kind].iter().flatten().filter(|count| **count > 0).count();
+        let names = |rule: fn(Option<Form>, Outcome) -> bool| -> Vec<String> {
+            let those = self.pairs().filter(|(form, outcome)| rule(*form, *outcome));
+            those.map(|(form, outcome)| format!("{} {outcome:?}", name(form))).collect()
+        };
+        let (all, of) = self.reached();
+        vec![
+            format!("{all} of {of} (form, outcome) pairs reached; {}", self.summary()),
+            format!(
+                "{} of these pairs by the original's own answers, {} in steps that read an operand outside the cells; \
+                 {NEW} that it cannot come to, and without {} of its {IN_THE_ORIGINAL}: {}",
+                reached(0),
+                reached(1),
+                CEASED,
+                names(ceased).join(", ")
+            ),
+        ]
+    }
+
     /// The count of forms reached, outcome by outcome.
-    pub fn summary(&self) -> String {
-        let reached = |column: usize| self.counts.iter().filter(|counts| counts[column] > 0).count();
+    fn summary(&self) -> String {
+        let [own, outside] = &self.counts;
+        let reached = |column: usize| {
+            own.iter().zip(outside).filter(|(own, outside)| own[column] + outside[column] > 0).count()
+        };
         let r: Vec<usize> = (0..OUTCOMES.len()).map(reached).collect();
         format!(
             "forms reached: done {}, done with interrupt {}, codes 1 to 5 entered {}/{}/{}/{}/{}, \
@@ -230,8 +303,8 @@ impl Coverage {
             r[20]
         )
     }
+}
 
-    fn name(&self, form: usize) -> String {
-        self.forms[form].map_or("fetch".into(), Form::name)
-    }
+fn name(form: Option<Form>) -> String {
+    form.map_or("fetch".into(), Form::name)
 }

@@ -1,9 +1,10 @@
-//! Cases with the expected numbers written out by hand from document 01: everything not named stays as it was.
+//! Cases with the expected numbers written out by hand from documents 01 and 02: everything not named stays as it was.
 
 mod audit;
 mod calls;
 mod console;
 mod course;
+mod outside;
 mod rules;
 
 use layout::memory::{INTERRUPT_EXCEPTION, INTERRUPT_HANDLER, INTERRUPT_PC_SAVE, INTERRUPT_SR_SAVE};
@@ -18,6 +19,7 @@ pub use layout::limit::CYCLES_MOST as MOST;
 pub use layout::sr::{INTERRUPT_ENABLE as I, NEGATIVE as N, OVERFLOW as V, SUPERVISOR as S, ZERO as Z};
 
 /// A case with what is due after it.
+#[derive(Clone)]
 pub struct Directed {
     pub name: String,
     pub case: Case,
@@ -32,6 +34,7 @@ pub fn cases() -> Vec<Directed> {
     cases.extend(console::cases());
     cases.extend(audit::cases());
     cases.extend(calls::cases());
+    cases.extend(outside::cases());
     cases
 }
 

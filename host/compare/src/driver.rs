@@ -1,6 +1,6 @@
 //! The judge with one case after another put on it; only the cells that were used are emptied between them.
 
-use judge::{Judge, Step};
+use judge::{Judge, Ran, Step};
 use layout::cell::{self, EMPTY, is_instruction};
 use layout::{Cell, at, refusal};
 use list::{Answer, CELLS, Call, Case};
@@ -9,11 +9,13 @@ pub struct Driver {
     pub judge: Judge,
     /// Addresses that may hold something: the case's cells and those written since.
     used: Vec<usize>,
+    /// Steps of this case that read an operand outside the cells, where the original has no answer.
+    pub read_outside: u64,
 }
 
 impl Default for Driver {
     fn default() -> Self {
-        Self { judge: Judge::empty(), used: Vec::new() }
+        Self { judge: Judge::empty(), used: Vec::new(), read_outside: 0 }
     }
 }
 
@@ -29,20 +31,31 @@ impl Driver {
             self.used.push(*address);
         }
         self.judge.put_rest(&case.queue, &case.output, &case.row);
+        self.read_outside = 0;
         emptied
     }
 
     pub fn step(&mut self) -> Step {
         let step = self.judge.step();
         self.used.extend_from_slice(self.judge.changed());
+        self.read_outside += u64::from(step.read_outside);
         step
     }
 
     /// The judge's answer to a call, and its drain buffer.
     pub fn call(&mut self, call: &Call) -> (Answer, Vec<u8>) {
-        let answered = judged(&mut self.judge, call);
+        let answered = match call {
+            Call::Run(budget) => (self.run(*budget), Vec::new()),
+            call => other(&mut self.judge, call),
+        };
         self.used.extend_from_slice(self.judge.changed());
         answered
+    }
+
+    fn run(&mut self, budget: u32) -> Answer {
+        let Ran { stop, detail, steps, read_outside } = self.judge.run(budget);
+        self.read_outside += read_outside;
+        Answer { stop, detail, count: steps, ..Answer::DONE }
     }
 }
 
@@ -52,13 +65,11 @@ pub fn fetched(judge: &Judge) -> Option<Cell> {
     Some(cell::get(judge.cells(), pc)).filter(|cell| is_instruction(*cell))
 }
 
-fn judged(judge: &mut Judge, call: &Call) -> (Answer, Vec<u8>) {
+/// A call that takes no step.
+fn other(judge: &mut Judge, call: &Call) -> (Answer, Vec<u8>) {
     let mut buffer = Vec::new();
     let answer = match call {
-        Call::Run(budget) => {
-            let ran = judge.run(*budget);
-            Answer { stop: ran.stop, detail: ran.detail, count: ran.steps, ..Answer::DONE }
-        }
+        Call::Run(_) => unreachable!("run takes steps"),
         Call::Deliver(bytes) => Answer::refused(judge.deliver(bytes)),
         Call::Drain(length) => {
             buffer = vec![0; *length];

@@ -23,15 +23,13 @@ pub fn check(machine: &mut dyn Machine, fill: Fill, loads: usize, seed: u64) -> 
         of = seeds.draw();
     }
     let (forms, least) = harness.coverage.forms_taken();
-    let (pairs, missing) = harness.coverage.missing(1);
+    let (reached, pairs) = harness.coverage.reached();
     if forms < 124 && loads >= ENOUGH {
         return Err(format!("exercise load: only {forms} forms were taken in {loads} loads"));
     }
     Ok(format!(
-        "exercise load: {} steps and {} calls compared on {loads} loads of {CELLS} cells; {forms} forms taken, each {least} times or more; {} of {pairs} (form, outcome) pairs",
-        harness.steps,
-        harness.calls,
-        pairs - missing.len()
+        "exercise load: {} steps and {} calls compared on {loads} loads of {CELLS} cells; {forms} forms taken, each {least} times or more; {reached} of {pairs} (form, outcome) pairs; {} steps read an operand outside",
+        harness.steps, harness.calls, harness.read_outside
     ))
 }
 

@@ -1,5 +1,8 @@
 //! The judge and another machine, side by side: each call is made on both and everything lent is compared.
 //!
+//! Steps that read an operand outside the cells, and no others, are left out of the comparison with the original, which stops there:
+//! they are counted apart, and held to the original's stop with its own entry of code 5 after it (`Judge`).
+//!
 //! A run is taken step by step, the other machine on a budget of 1, and then once more by the other machine on
 //! the whole budget. The judge's cells are compared as the numbers that it keeps; nothing is converted.
 
@@ -7,7 +10,7 @@ use judge::{Judge, Step};
 use layout::cell::{self, EMPTY};
 use list::{Answer, CELLS, Call, Case, Lent, Machine};
 
-use crate::coverage::{Coverage, outcome};
+use crate::coverage::Coverage;
 use crate::driver::{Driver, fetched};
 use crate::invariants::{self, Before};
 
@@ -20,6 +23,8 @@ pub struct Harness<'m> {
     lent: Lent,
     pub coverage: Coverage,
     pub steps: u64,
+    /// Of these, steps that read an operand outside the cells.
+    pub read_outside: u64,
     pub calls: u64,
 }
 
@@ -31,6 +36,7 @@ impl<'m> Harness<'m> {
             lent: Lent::zero(CELLS, 1, 0),
             coverage: Coverage::default(),
             steps: 0,
+            read_outside: 0,
             calls: 0,
         }
     }
@@ -100,6 +106,7 @@ impl<'m> Harness<'m> {
         let before = self.before();
         let step = self.driver.step();
         self.steps += 1;
+        self.read_outside += u64::from(step.read_outside);
         let answer = self.other.run(&mut self.lent, 1);
         let due =
             Answer { stop: step.stop, detail: step.detail, count: step.completed.into(), ..Answer::DONE };
@@ -109,7 +116,7 @@ impl<'m> Harness<'m> {
         self.compare()?;
         let judge = &self.driver.judge;
         invariants::check(&before, &step, judge.row(), judge.cells(), judge.changed().len())?;
-        self.coverage.count(before.fetched, outcome(&step))?;
+        self.coverage.count(before.fetched, &step)?;
         if self.steps.is_multiple_of(VERIFY_EVERY) {
             self.driver.judge.verify()?;
         }

@@ -45,10 +45,12 @@ fn write_list(file: &str) -> Result<Vec<String>, String> {
     let list = record::list()?;
     fs::write(file, &list.text).map_err(|why| format!("{file}: {why}"))?;
     Ok(vec![format!(
-        "recorded list: {} cases ({} for the runner), {} steps, {} bytes",
+        "recorded list: {} cases ({} for the runner), {} steps, {} bytes; the last {} cases read an operand outside the cells, and have \
+         the plain interpreter's answers",
         list.cases,
         list.for_runner,
         list.steps,
-        list.text.len()
+        list.text.len(),
+        list.of_plain
     )])
 }

@@ -35,23 +35,26 @@ pub fn all(harness: &mut Harness, size: &Size, seed: u64) -> Result<Vec<String>,
     let after_words = harness.steps;
     programs(harness, size.programs, seed)?;
     let user = pairs::check(&mut Rng::new(seed + 2), size.pairs, 300)?;
-    let (pairs, missing) = harness.coverage.missing(1);
+    let missing = harness.coverage.missing(1);
     if !missing.is_empty() {
-        return Err(format!("{} of {pairs} pairs not reached: {}", missing.len(), missing.join(", ")));
+        return Err(format!("{} (form, outcome) pairs not reached: {}", missing.len(), missing.join(", ")));
     }
-    Ok(vec![
+    let mut lines = vec![
         format!("{tags} cells: sound, encoding and cost as the original's types have them"),
         format!("{directed} directed cases as written out by hand"),
         format!(
-            "{} steps and {} calls compared: single {after_singles}, words {}, programs {}",
+            "{} steps and {} calls compared: single {after_singles}, words {}, programs {}; of these steps {} read an operand \
+             outside the cells, and are held to the original's stop with its own entry of code 5 after it",
             harness.steps,
             harness.calls,
             after_words - after_singles,
-            harness.steps - after_words
+            harness.steps - after_words,
+            harness.read_outside
         ),
         format!("{user} steps in user mode by two machines with different consoles, alike"),
-        format!("{pairs} of {pairs} (form, outcome) pairs reached; {}", harness.coverage.summary()),
-    ])
+    ];
+    lines.extend(harness.coverage.told());
+    Ok(lines)
 }
 
 fn singles(harness: &mut Harness, count: usize, seed: u64) -> Result<(), String> {

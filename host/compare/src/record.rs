@@ -1,11 +1,12 @@
-//! The recorded list: the judge's answers to a fixed choice of cases.
+//! The recorded list: the judge's answers to a fixed choice of cases. Cases in which a step reads an operand outside the cells, where
+//! the original has no answer, stand last, with the plain interpreter's answers.
 
 use judge::Judge;
 use layout::at;
 use layout::stop::{BUDGET_SPENT, OUTPUT_FULL};
-use list::{Call, Case, Lent, Recorded, Writer};
+use list::{Call, Case, Lent, Plain, Recorded, Writer};
 
-use crate::coverage::{Coverage, outcome};
+use crate::coverage::Coverage;
 use crate::driver::{Driver, fetched};
 use crate::forms::*;
 use crate::rng::Rng;
@@ -19,6 +20,8 @@ const WORDS_STRIDE: usize = 331;
 const PROGRAMS: usize = 60;
 /// How many of the runner's programs end with stops 0 to 6, and after how many steps at least.
 const FOR_RUNNER: [(usize, u64); 7] = [(12, 0), (170, 20), (90, 10), (20, 5), (80, 10), (60, 10), (3, 0)];
+/// How many more of them read an operand outside, and after how many steps they end at least.
+const OUTSIDE_FOR_RUNNER: (usize, u64) = (40, 10);
 /// A program that is to end by itself does so within so many steps.
 const LIMIT: u32 = 5_000;
 const SEED: u64 = 33;
@@ -27,6 +30,8 @@ pub struct List {
     pub text: String,
     pub cases: usize,
     pub for_runner: usize,
+    /// The last so many have the plain interpreter's answers.
+    pub of_plain: usize,
     pub steps: u64,
 }
 
@@ -41,14 +46,16 @@ pub fn list() -> Result<List, String> {
     recorder.programs()?;
     recorder.worked_runs()?;
     recorder.for_runner()?;
-    let (pairs, missing) = recorder.coverage.missing(EACH_PAIR);
+    let of_plain = recorder.of_plain()?;
+    let missing = recorder.coverage.missing(EACH_PAIR);
     if !missing.is_empty() {
-        return Err(format!("{} of {pairs} pairs are not recorded: {missing:?}", missing.len()));
+        return Err(format!("{} (form, outcome) pairs are not recorded: {missing:?}", missing.len()));
     }
     Ok(List {
         text: recorder.writer.finish(),
         cases: recorder.cases,
         for_runner: recorder.runner_cases,
+        of_plain,
         steps: recorder.steps,
     })
 }
@@ -58,26 +65,51 @@ struct Recorder {
     driver: Driver,
     writer: Writer,
     coverage: Coverage,
+    /// Cases for the plain interpreter.
+    outside: Vec<Case>,
     cases: usize,
     runner_cases: usize,
     steps: u64,
 }
 
 impl Recorder {
-    /// Makes the case's calls on the judge and writes them down.
+    /// Makes the case's calls on the judge and writes them down; or keeps the case, where the original has not all of the answers.
     fn case(&mut self, case: &Case) -> Result<(), String> {
-        self.driver.start(case);
-        let mut calls = Vec::new();
-        for call in &case.calls {
-            calls.push(recorded(&mut self.driver, call));
+        let calls = self.judged(case)?;
+        if self.driver.read_outside > 0 {
+            self.outside.push(case.clone());
+        } else {
+            self.write(case, &calls);
         }
+        Ok(())
+    }
+
+    /// The cases that were kept: the plain interpreter's answers, which are also those put together in the judge. Their count.
+    fn of_plain(&mut self) -> Result<usize, String> {
+        let cases = std::mem::take(&mut self.outside);
+        for case in &cases {
+            let (calls, due) = (on_plain(case), self.judged(case)?);
+            if calls != due {
+                return Err(format!("plain interpreter and judge differ on\n{}", list::case_lines(1, case)));
+            }
+            self.write(case, &calls);
+        }
+        Ok(cases.len())
+    }
+
+    fn judged(&mut self, case: &Case) -> Result<Vec<Recorded>, String> {
+        self.driver.start(case);
+        let calls = case.calls.iter().map(|call| recorded(&mut self.driver, call)).collect();
         self.driver.judge.verify()?;
-        self.writer.case(case, &calls);
+        Ok(calls)
+    }
+
+    fn write(&mut self, case: &Case, calls: &[Recorded]) {
+        self.writer.case(case, calls);
         self.cases += 1;
         self.runner_cases += usize::from(case.for_runner);
         let runs = calls.iter().filter(|made| matches!(made.call, Call::Run(_)));
         self.steps += runs.map(|made| made.answer.count).sum::<u64>();
-        Ok(())
     }
 
     /// Draws until each pair was met so often; only the first of each are recorded.
@@ -91,11 +123,10 @@ impl Recorder {
             self.driver.start(&case);
             let cell = fetched(&self.driver.judge);
             let step = self.driver.step();
-            let pair = self.coverage.count(cell, outcome(&step))?;
-            if self.coverage.reached(pair) <= EACH_PAIR {
+            if self.coverage.count(cell, &step)? <= EACH_PAIR {
                 self.case(&case)?;
             }
-            if turn % 100_000 == 0 && self.coverage.missing(EACH_PAIR).1.is_empty() {
+            if turn % 100_000 == 0 && self.coverage.missing(EACH_PAIR).is_empty() {
                 return Ok(());
             }
         }
@@ -138,13 +169,13 @@ impl Recorder {
         Ok(())
     }
 
-    /// Drawn programs for the runner, so many for each stop.
+    /// Drawn programs for the runner, so many for each stop, and so many that read an operand outside.
     fn for_runner(&mut self) -> Result<(), String> {
         let mut rng = Rng::new(SEED + 2);
         let mut judge = Judge::empty();
-        let mut open = FOR_RUNNER;
+        let (mut open, mut outside) = (FOR_RUNNER, OUTSIDE_FOR_RUNNER);
         for _ in 0..MOST_DRAWS {
-            if open.iter().all(|(left, _)| *left == 0) {
+            if open.iter().chain([&outside]).all(|(left, _)| *left == 0) {
                 return Ok(());
             }
             let limit = if open[BUDGET_SPENT as usize].0 + open[OUTPUT_FULL as usize].0 > 0 {
@@ -152,15 +183,30 @@ impl Recorder {
             } else {
                 LIMIT
             };
-            let Some((case, answer)) = runner::draw(&mut rng, &mut judge, limit) else { continue };
-            let Some((left, least)) = open.get_mut(answer.stop as usize) else { continue };
-            if *left > 0 && answer.count >= *least {
+            let Some((case, ended)) = runner::draw(&mut rng, &mut judge, limit) else { continue };
+            let of_stop = if ended.read_outside {
+                Some(&mut outside)
+            } else {
+                open.get_mut(ended.answer.stop as usize)
+            };
+            let Some((left, least)) = of_stop else { continue };
+            if *left > 0 && ended.answer.count >= *least {
                 *left -= 1;
                 self.case(&case)?;
             }
         }
-        Err(format!("programs for the runner missing by stop: {open:?}"))
+        Err(format!("programs for the runner missing by stop: {open:?}; and that read outside: {outside:?}"))
     }
+}
+
+fn on_plain(case: &Case) -> Vec<Recorded> {
+    let mut lent = case.lent();
+    let mut made = |call: &Call| {
+        let before = lent.clone();
+        let (answer, buffer) = call.make(&mut Plain, &mut lent);
+        Recorded { call: call.clone(), answer, before, after: lent.clone(), buffer }
+    };
+    case.calls.iter().map(&mut made).collect()
 }
 
 fn recorded(driver: &mut Driver, call: &Call) -> Recorded {

@@ -10,9 +10,16 @@ use crate::forms::*;
 use crate::programs::{Layout, put_code, put_handler};
 use crate::rng::Rng;
 
+/// How a program for the runner ends.
+pub struct Ended {
+    pub answer: Answer,
+    /// A step read an operand outside the cells, where the original has no answer.
+    pub read_outside: bool,
+}
+
 /// A program that the runner runs as the judge does; none where the draw touched a cell from 2,048 on,
 /// or that has not stopped when the limit, in steps, is at an end.
-pub fn draw(rng: &mut Rng, judge: &mut Judge, limit: u32) -> Option<(Case, Answer)> {
+pub fn draw(rng: &mut Rng, judge: &mut Judge, limit: u32) -> Option<(Case, Ended)> {
     let layout = Layout {
         code: rng.pick(&[0, 300, 1_000]),
         length: rng.between(4, 40),
@@ -31,7 +38,7 @@ pub fn draw(rng: &mut Rng, judge: &mut Judge, limit: u32) -> Option<(Case, Answe
     if case.cells.iter().any(|(address, _)| *address >= RUNNER_CELLS) {
         return None;
     }
-    same_in_the_runner(judge, &case, limit).map(|answer| (case, answer))
+    same_in_the_runner(judge, &case, limit).map(|ended| (case, ended))
 }
 
 /// An empty machine of the runner's sizes, run on its budget.
@@ -65,32 +72,36 @@ fn count_down(rng: &mut Rng, layout: &Layout, case: &mut Case) {
 }
 
 /// The judge's answer, where no step touches a cell from 2,048 on and 2,048 cells give the same.
-pub fn same_in_the_runner(judge: &mut Judge, case: &Case, limit: u32) -> Option<Answer> {
+pub fn same_in_the_runner(judge: &mut Judge, case: &Case, limit: u32) -> Option<Ended> {
     let lent = case.lent();
     judge.put(&lent.cells, &lent.queue, &lent.output, &lent.row);
-    let answer = run_below(judge, limit)?;
+    let ended = run_below(judge, limit)?;
     let mut small = Lent { cells: lent.cells[..cell::LENGTH * RUNNER_CELLS].to_vec(), ..lent };
-    let same = Plain.run(&mut small, BUDGET) == answer
+    let same = Plain.run(&mut small, BUDGET) == ended.answer
         && small.row == *judge.row()
         && small.output == judge.output()
         && small.cells == judge.cells()[..cell::LENGTH * RUNNER_CELLS];
-    same.then_some(answer)
+    same.then_some(ended)
 }
 
 /// Runs the judge on the runner's budget; none once a step touches a cell from 2,048 on.
-fn run_below(judge: &mut Judge, limit: u32) -> Option<Answer> {
-    for count in 0..u64::from(BUDGET.min(limit)) {
+fn run_below(judge: &mut Judge, limit: u32) -> Option<Ended> {
+    let mut ended = Ended { answer: Answer::DONE, read_outside: false };
+    while ended.answer.count < u64::from(BUDGET.min(limit)) {
         let before = *judge.row();
         let cell = crate::driver::fetched(judge);
         let step = judge.step();
+        ended.read_outside |= step.read_outside;
         if touches(&before, judge.row(), cell) {
             return None;
         }
         if !step.completed {
-            return Some(Answer { stop: step.stop, detail: step.detail, count, ..Answer::DONE });
+            (ended.answer.stop, ended.answer.detail) = (step.stop, step.detail);
+            return Some(ended);
         }
+        ended.answer.count += 1;
     }
-    (limit >= BUDGET).then_some(Answer { count: BUDGET.into(), ..Answer::DONE })
+    (limit >= BUDGET).then_some(ended)
 }
 
 /// Whether pc, the stack or an operand, by the registers before or after, names a cell from 2,048 on.

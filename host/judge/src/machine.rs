@@ -21,6 +21,7 @@ use crate::constants::{
 use crate::encoding::{self, decode, encode};
 use crate::places::{CELLS, Places, SAVES, may_have_written};
 use crate::row::{DAMAGED, place};
+use crate::runtime::arguments::ExtractError;
 use crate::runtime::registers::StatusRegister;
 use crate::runtime::{Computer, Exception, Instruction, IoBus, Memory, ProcessorError, Registers};
 
@@ -34,6 +35,8 @@ pub struct Step {
     pub completed: bool,
     /// The code of the exception that this completed step entered.
     pub entered: Option<u64>,
+    /// An operand was read outside the cells. The original stops there, and what is told here is not its answer: see `attempt`.
+    pub read_outside: bool,
 }
 
 #[derive(Clone, Copy, Debug, PartialEq, Eq)]
@@ -41,6 +44,8 @@ pub struct Ran {
     pub stop: u64,
     pub detail: u64,
     pub steps: u64,
+    /// How many steps, the last one among them, read an operand outside the cells.
+    pub read_outside: u64,
 }
 
 /// Stop 0: the exception was entered.
@@ -145,7 +150,25 @@ impl Judge {
 
     fn step_on(&mut self) -> Step {
         let fetched = self.fetched();
-        let result = self.computer.step();
+        let (result, read_outside) = self.attempt();
+        Step { read_outside, ..self.step_after(fetched, result) }
+    }
+
+    /// The original's step, and whether an operand was read outside the cells: that is what its own error says. There code 5 is
+    /// raised in place of its stop (document 02, Card 9), by the original's own entry, on the machine that the stop left.
+    fn attempt(&mut self) -> (Result<(), ProcessorError>, bool) {
+        match self.computer.step() {
+            Err(ProcessorError::Extract(ExtractError::MemoryError(error))) => {
+                let entered = self.computer.recover_from_exception(&error.into());
+                self.computer.cycles += usize::from(entered.is_ok());
+                (entered.map_err(ProcessorError::Exception), true)
+            }
+            result => (result, false),
+        }
+    }
+
+    /// Stops 6 and 7, and the buffers brought up to date.
+    fn step_after(&mut self, fetched: Option<Flat>, result: Result<(), ProcessorError>) -> Step {
         let bytes = self.take_output(fetched);
         let next = self.registers_now();
         let maybe = may_have_written(&self.row, &next, &self.at_entry(next), fetched);
@@ -172,13 +195,16 @@ impl Judge {
     /// Steps until one is not completed or the budget is spent.
     pub fn run(&mut self, budget: u32) -> Ran {
         self.changed.clear();
-        for steps in 0..u64::from(budget) {
-            let Step { stop, detail, completed, .. } = self.step_on();
-            if !completed {
-                return Ran { stop, detail, steps };
+        let mut ran = Ran { stop: stop::BUDGET_SPENT, detail: 0, steps: 0, read_outside: 0 };
+        while ran.steps < u64::from(budget) {
+            let step = self.step_on();
+            ran.read_outside += u64::from(step.read_outside);
+            if !step.completed {
+                return Ran { stop: step.stop, detail: step.detail, ..ran };
             }
+            ran.steps += 1;
         }
-        Ran { stop: stop::BUDGET_SPENT, detail: 0, steps: budget.into() }
+        ran
     }
 
     /// `Computer::step` alone, to time it: the buffers stay behind until `refresh`.
@@ -337,7 +363,7 @@ impl Judge {
             Some(cost) if added == cost => None,
             _ => Some(self.saved(INTERRUPT_EXCEPTION) as u64),
         };
-        Step { stop: stop::BUDGET_SPENT, detail: 0, completed: true, entered }
+        Step { stop: stop::BUDGET_SPENT, detail: 0, completed: true, entered, read_outside: false }
     }
 
     /// An instruction of cost 1 that ends at the handler either jumped there or raised an exception: both add
@@ -429,7 +455,7 @@ fn instruction_of(flat: Flat) -> Option<Instruction> {
 }
 
 fn stopped(stop: u64, detail: u64) -> Step {
-    Step { stop, detail, completed: false, entered: None }
+    Step { stop, detail, completed: false, entered: None, read_outside: false }
 }
 
 fn stop_of(error: &ProcessorError) -> Step {

@@ -43,6 +43,7 @@ impl Answer {
 }
 
 /// A call with its answer and what it left.
+#[derive(PartialEq, Eq)]
 pub struct Recorded {
     pub call: Call,
     pub answer: Answer,

@@ -2,7 +2,7 @@
 
 use layout::Cell;
 use layout::cell::{word, word_in};
-use layout::code::{DIV_BY_ZERO, INVALID_INSTRUCTION, INVALID_MEMORY_ACCESS, TRAP};
+use layout::code::{DIV_BY_ZERO, INVALID_INSTRUCTION, TRAP};
 use layout::limit::SHIFT_MOST;
 use layout::memory::{INTERRUPT_PC_SAVE, INTERRUPT_SR_SAVE};
 use layout::mode::REG;
@@ -114,7 +114,7 @@ impl Machine<'_> {
     /// Word 1 is written before the register is set.
     fn fas(&mut self, x: Operand, y: Operand) -> Done {
         let address = self.address(x).ok_or(Fault::CellError)?;
-        let cell = self.read(address).ok_or(Fault::Code(INVALID_MEMORY_ACCESS))?;
+        let cell = self.read(address)?;
         self.write(address, word(1))?;
         self.set(y.reg, cell)
     }
@@ -178,7 +178,7 @@ impl Machine<'_> {
 
     /// Read at sp, then move sp.
     fn pop_cell(&mut self) -> Result<Cell, Fault> {
-        let cell = self.read(self.state.sp).ok_or(Fault::Code(INVALID_MEMORY_ACCESS))?;
+        let cell = self.read(self.state.sp)?;
         self.state.sp += 1;
         Ok(cell)
     }
@@ -197,9 +197,9 @@ impl Machine<'_> {
     /// pc is set before cell 101 is read.
     fn rti(&mut self) -> Done {
         self.privileged()?;
-        let pc = self.read(INTERRUPT_PC_SAVE).and_then(word_in).and_then(address_in);
+        let pc = word_in(self.read(INTERRUPT_PC_SAVE)?).and_then(address_in);
         self.state.pc = pc.ok_or(Fault::CellError)?;
-        self.state.sr = self.read(INTERRUPT_SR_SAVE).and_then(word_in).ok_or(Fault::CellError)?;
+        self.state.sr = word_in(self.read(INTERRUPT_SR_SAVE)?).ok_or(Fault::CellError)?;
         Ok(())
     }
 

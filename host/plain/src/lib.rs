@@ -1,4 +1,4 @@
-//! A plain interpreter over the lent numbers, written from document 01's sentences and not from the original.
+//! A plain interpreter over the lent numbers, written from the sentences of documents 01 and 02 and not from the original.
 //! It is compared with the judge after every step, replays the recorded list where the original is not at hand,
 //! and is the loop that speed is measured against. It trusts its caller to lend only what `run` accepts.
 

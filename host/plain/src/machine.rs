@@ -91,7 +91,7 @@ impl Machine<'_> {
 
     /// Fetch and execute; the instruction's cost.
     fn attempt(&mut self) -> Result<u64, Fault> {
-        let cell = self.read(self.state.pc).ok_or(Fault::Code(INVALID_MEMORY_ACCESS))?;
+        let cell = self.read(self.state.pc)?;
         self.state.pc += 1;
         if !is_instruction(cell) {
             return Err(Fault::Code(INVALID_INSTRUCTION));
@@ -126,8 +126,9 @@ impl Machine<'_> {
         self.state.sr = if value { self.state.sr | bit } else { self.state.sr & !bit };
     }
 
-    pub fn read(&self, address: u32) -> Option<Cell> {
-        read(self.cells, address)
+    /// A read outside the cells is code 5, an operand's too (document 02, Card 9).
+    pub fn read(&self, address: u32) -> Result<Cell, Fault> {
+        read(self.cells, address).ok_or(Fault::Code(INVALID_MEMORY_ACCESS))
     }
 
     /// A store outside the cells is code 5.
@@ -175,15 +176,12 @@ impl Machine<'_> {
         }
     }
 
-    /// An operand's cell; what cannot be taken is stop 4.
+    /// An operand's cell; a word that is no address is stop 4.
     pub fn cell_of(&self, operand: Operand) -> Result<Cell, Fault> {
         match operand.mode {
             mode::IMM => Ok(word(operand.number)),
             mode::REG => Ok(self.get(operand.reg)),
-            _ => {
-                let address = self.address(operand).ok_or(Fault::Extract)?;
-                self.read(address).ok_or(Fault::Extract)
-            }
+            _ => self.read(self.address(operand).ok_or(Fault::Extract)?),
         }
     }
 

@@ -13,7 +13,7 @@ pub enum Exception {
     PrivilegedInstruction,
     /// Code 4: the instruction trap.
     Trap,
-    /// Code 5: a fetch, a store or the stack outside the cells.
+    /// Code 5: a fetch, an operand, a store or the stack outside the cells.
     InvalidMemoryAccess,
 }
 

@@ -78,7 +78,7 @@ fn each_refusal_has_its_number_and_words() {
 #[test]
 fn each_stop_has_its_number_and_words() {
     let push = one(19952, 0, 0); // push %a
-    let cases: [(&[Cell], u32, Ran, (u64, u64), &str); 7] = [
+    let cases: [(&[Cell], u32, Ran, (u64, u64), &str); 8] = [
         (&[NOP, NOP], 1, Ran { stop: Stop::BudgetSpent, steps: 1 }, (0, 0), "budget spent after 1 step"),
         (&[NOP, NOP, RESET], 9, Ran { stop: Stop::Reset, steps: 2 }, (1, 0), "reset after 2 steps"),
         // div 0,%a
@@ -96,9 +96,17 @@ fn each_stop_has_its_number_and_words() {
             (2, 5),
             "invalid memory access without a handler after 0 steps",
         ),
-        // ld [5000],%a
+        // ld [5000],%a, outside the cells
         (
             &[one(13102, 5000, 0)],
+            9,
+            Ran { stop: Stop::NoHandler(Exception::InvalidMemoryAccess), steps: 0 },
+            (2, 5),
+            "invalid memory access without a handler after 0 steps",
+        ),
+        // jmp -1, which is no address
+        (
+            &[one(6452, -1, 0)],
             9,
             Ran { stop: Stop::Extract, steps: 0 },
             (4, 0),

@@ -1,49 +1,30 @@
 use mathlib.Core.Path.{_∙_, ap}
-use Rattle.definition.specs.declared.Address.{Address}
-use Rattle.definition.specs.declared.Found.{Found}
+use Rattle.definition.specs.declared.Cell.{Cell}
 use Rattle.definition.specs.declared.Error.the-variants.{Extract}
-use Rattle.definition.specs.Memory.{asAddress}
-use Rattle.definition.specs.Arguments.{wordThere, operandWord}
-use Rattle.definition.specs.Exec.{core, orAddress}
+use Rattle.definition.specs.Exec.{Res, andThen}
+use Rattle.arguments.specs.Operands.{argOf}
 use Rattle.arguments.specs.Taken.{tookAddress}
+use Rattle.arguments.proofs.Laws.{wordIn, addressIn, cell-of-is}
 use borrow.Author.Needs.{needs}
 use Rattle.arguments.proofs.target_of.Statement.{statement}
 use Rattle.arguments.proofs.target_of.Tie as tie
 use Rattle.arguments.proofs.target_of.Reads as reads
 use Rattle.arguments.proofs.target_of.Lts as lts
-use Rattle.arguments.proofs.extract_cell.Reads as extract-cell-reads
-use Rattle.arguments.proofs.taken.or_address.Reads as or-address-reads
-use Rattle.arguments.proofs.word_there.Reads as word-there-reads
-use Rattle.memory.proofs.as_address.Reads as as-address-reads
+use Rattle.arguments.proofs.cell_of.Reads as cell-of-reads
+use Rattle.arguments.proofs.taken.address_in.Reads as address-in-reads
 
-extract-cell-requires : tie.Need-extract-cell-requires
-extract-cell-requires c κs = search needs
+cell-of-requires : tie.Need-cell-of-requires
+cell-of-requires c κs = search needs
 
-word-there-requires : tie.Need-word-there-requires
-word-there-requires c κs = search needs
-
-as-address-requires : tie.Need-as-address-requires
-as-address-requires c κs = search needs
-
-or-address-requires : tie.Need-or-address-requires
-or-address-requires c κs = search needs
+address-in-requires : tie.Need-address-in-requires
+address-in-requires c κs = search needs
 
 returns : tie.Need-returns
-unfolding operandWord
 returns c =
-    let at-as-address = c .before in
-    let at-word-there = at-as-address .before in
-    let at-extract-cell = at-word-there .before in
-    let start = at-extract-cell .before in
+    let at-cell-of = c .before in
+    let start = at-cell-of .before in
     let a = start .args in let l = a .cells .now in
-    c .or-address .ensures l ∙ ap (λ (n : Address). tookAddress (orAddress n Extract (core l (a .s)))) (at-as-address .as-address .ensures ∙ ap asAddress (at-word-there .word-there .ensures ∙ ap wordThere (at-extract-cell .extract-cell .ensures)))
+    c .address-in .ensures l ∙ ap (λ (m : Res Cell). tookAddress (andThen (andThen m (wordIn Extract)) (addressIn Extract))) (cell-of-is l (a .s) (argOf (a .x)) (at-cell-of .cell-of .result) (at-cell-of .cell-of .ensures))
 
 pub target-of-spec : {M : Type 1} → statement M
-target-of-spec =
-    tie.close
-    (tie.spec
-    extract-cell-requires
-    word-there-requires
-    as-address-requires
-    or-address-requires
-    returns)
+target-of-spec = tie.close (tie.spec cell-of-requires address-in-requires returns)

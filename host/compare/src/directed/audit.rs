@@ -89,7 +89,7 @@ fn order_of_tests() -> Vec<Directed> {
     vec![
         stops("div 0,%sr in user mode", instruction(DIV, imm(0), reg(SR)), 2, 1),
         stops("shl 64,%sr in user mode", instruction(SHL, imm(64), reg(SR)), 2, 2),
-        stops("ld [10000],%sr in user mode", instruction(LD, dir(10_000), reg(SR)), 4, 0),
+        stops("ld [10000],%sr in user mode", instruction(LD, dir(10_000), reg(SR)), 2, 5),
         stops("div 0,%a with an instruction in a", instruction(DIV, imm(0), reg(A)), 4, 0),
         stops("shl 64,%a with an instruction in a", instruction(SHL, imm(64), reg(A)), 4, 0),
         stops("st: source before address", instruction(ST, reg(A), ind(B)), 4, 0),
@@ -113,7 +113,7 @@ fn order_of_tests() -> Vec<Directed> {
 fn order_in_swap() -> Vec<Directed> {
     let swap = |x: Operand, y: i64| instruction(SWAP, x, reg(y));
     vec![
-        at_10("swap [10000],%sr in user mode", swap(dir(10_000), SR)).stops(4, 0).then(at::PC, 11),
+        at_10("swap [10000],%sr in user mode", swap(dir(10_000), SR)).stops(2, 5).then(at::PC, 11),
         at_10("swap [50],%sr in user mode", swap(dir(50), SR)).stops(2, 3).then(at::PC, 11),
         at_10("swap %sr,%a in user mode: a has the old sr", swap(reg(SR), A))
             .row(at::SR, V)
@@ -191,7 +191,16 @@ fn full_cycles() -> Vec<Directed> {
             .then(at::PC, 11),
         full("full cycles: an entry", instruction(TRAP, NONE, NONE)).cell(200, nop()).stops(7, 0),
         full("full cycles: a fetch of no instruction", word(1)).cell(200, nop()).stops(7, 0),
-        full("full cycles: stop 4 stays", instruction(LD, dir(10_000), reg(A))).stops(4, 0).then(at::PC, 11),
+        full("full cycles: stop 4 stays", instruction(LD, ind(B), reg(A)))
+            .register(at::B, word(-1))
+            .stops(4, 0)
+            .then(at::PC, 11),
+        full(
+            "full cycles: a read outside without handler is still stop 2",
+            instruction(LD, dir(10_000), reg(A)),
+        )
+        .stops(2, 5)
+        .then(at::PC, 11),
         full("full cycles: stop 5 stays", instruction(NOT, reg(PC), NONE)).stops(5, 2).then(at::PC, 11),
         full("full cycles: before a poll without handler", nop())
             .row(at::SR, I)

@@ -100,7 +100,7 @@ fn edges_of_memory() -> Vec<Directed> {
             .stops(2, 5)
             .then(at::PC, 11)
             .then(at::SP, 4_294_967_295),
-        at_10("ld [10000],%a", instruction(LD, dir(10_000), reg(A))).stops(4, 0).then(at::PC, 11),
+        at_10("ld [10000],%a", instruction(LD, dir(10_000), reg(A))).stops(2, 5).then(at::PC, 11),
         at_10("st %a,[10000]", instruction(ST, reg(A), dir(10_000))).stops(2, 5).then(at::PC, 11),
     ]
 }
@@ -151,7 +151,7 @@ fn traps() -> Vec<Directed> {
             .then(at::SP, 50)
             .then_at(11, 2),
         at_10("call with an operand outside has pushed", instruction(CALL, dir(10_000), NONE))
-            .stops(4, 0)
+            .stops(2, 5)
             .then_cell(999, word(11))
             .then(at::SP, 999)
             .then(at::PC, 11),

@@ -291,7 +291,7 @@ fn control() -> Vec<Directed> {
             .then_at(11, 2),
         at_10("a jump taken reads", instruction(JEQ, dir(10_000), NONE))
             .row(at::SR, Z)
-            .stops(4, 0)
+            .stops(2, 5)
             .then(at::PC, 11),
         at_10("rtn", instruction(RTN, NONE, NONE))
             .cell(1_000, word(77))
