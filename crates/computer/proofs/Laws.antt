@@ -2,40 +2,38 @@
 use mathlib.Core.Path.{_≡_, refl, sym, ap, _∙_, subst}
 use mathlib.Core.Bool.{Bool, true, false, not, cond, _&&_, true≢false}
 use mathlib.Core.List.{List}
-use Prim.Native.Nat.{ℕ, zero, suc, _+_, _-_, _<_, _≤_}
+use Prim.Native.Nat.{ℕ, suc, _+_, _-_, _<_, _≤_}
 use native.Mathlib.Omega.{arith}
-use lib.IntN.{ℤ, pos}
+use lib.IntN.{ℤ}
 use lib.ListN.{length}
 use lib.Dec.{ltb}
 use borrow.Author.Tests.{ltb-true, ltb-false}
 use Rattle.definition.specs.declared.Registers.{Registers}
-use Rattle.definition.specs.declared.Error.{Error}
 use Rattle.definition.specs.Constants.{CYCLES-END}
 use Rattle.definition.specs.Exception.{Ending, exception, stop, ending, HARDWARE-INTERRUPT, NO-HANDLER}
-use Rattle.definition.specs.Memory.{cellCount, empty}
+use Rattle.definition.specs.Memory.{cellCount}
 use Rattle.definition.specs.Registers.{refused, interruptEnable}
 use Rattle.definition.specs.Encoding.{Instruction}
-use Rattle.definition.specs.Exec.{Core, core, Exec, Res, ok, err, andThen, _>>=_, return}
+use Rattle.definition.specs.Exec.{Core, core, Res, ok, err, andThen, return}
 use Rattle.definition.specs.Instructions.{Request, execute}
 use Rattle.definition.specs.Runtime as M
-use Rattle.definition.specs.Runtime.{Machine, machine, with-core, with-cycles, with-mark, Executed, Run, runs}
+use Rattle.definition.specs.Runtime.{Machine, with-core, with-cycles, with-mark, Executed, Run, runs}
 use Rattle.definition.specs.Accepted.{AcceptedMachine}
 use Rattle.definition.proofs.Step.{limit-below}
 use Rattle.definition.proofs.Accepted.{OutcomeHas, step-accepted}
-use Rattle.memory.specs.Overlay.{overlay}
-use Rattle.memory.proofs.Laws.{over-none, over-no-cell}
+use Rattle.memory.proofs.Laws.{over-none}
 use Rattle.registers.specs.Meaning.{result, settled}
 use Rattle.stores.specs.declared.Made.{Made}
+use Rattle.stores.specs.Meaning.{planned, coreOf, unwritten}
 use Rattle.encoding.specs.Meaning.{instrOf}
 use Rattle.console.specs.declared.ConsoleState.{ConsoleState}
-use Rattle.console.specs.Meaning.{consoleOf}
 use Rattle.runtime.specs.declared.State.{State}
 use Rattle.runtime.specs.declared.fetch.Fetched.{Fetched}
 use Rattle.runtime.specs.declared.perform.Served.{Served}
 use Rattle.runtime.specs.declared.arrive.Performed.{Performed}
 use Rattle.runtime.specs.declared.arrive.Arrival.{Arrival}
-use Rattle.runtime.specs.declared.decide.Decision.{Decision}
-use Rattle.runtime.specs.Meaning.{machineAt, fetchedRes, Fetches, performedRes, performedAt, concluded, kept, keptMade, attempted, executedAt, servedTurn, Serves, Concludes, outcomeAt, decidedOf, Decides}
+use Rattle.runtime.specs.Meaning.{machineAt, effectsAt, unsent, turnOf, Fetches, performedRes, concluded, done, attempted, executedAt, servedTurn, Serves, Concludes, outcomeAt}
+use Rattle.runtime.proofs.Served.{serves-unwritten}
 use Rattle.computer.specs.Meaning.{NEAR, quiet}
 
 -- ---- fetch and execute
@@ -45,48 +43,31 @@ unfolding andThen
 attempted-is cost (ok q c) = refl
 attempted-is cost (err e c) = refl
 
-module _ (l : List ℤ) (s : Registers) (f : Fetched) (h : Fetches l s f) where
-  fetched : (b : Bool) → f .ok ≡ b → result (instrOf (f .i)) b (f .error) (core l (f .s)) ≡ M.fetch (core l s)
-  fetched b e = ap (λ (x : Bool). result (instrOf (f .i)) x (f .error) (core l (f .s))) (sym e) ∙ h .is
+-- the fetched instruction executed, where there is one
+abbrev pub requested : List ℤ → Fetched → Res Request
+requested l f = cond (f .ok) (executedAt l (f .s) (f .i)) (err (f .error) (core l (f .s)))
 
-  attempt-ok : f .ok ≡ true → attempted (f .i .cost) (executedAt l (f .s) (f .i)) ≡ M.attempt (core l s)
-  unfolding M.attempt andThen
-  attempt-ok e =
-      sym (attempted-is (f .i .cost) (executedAt l (f .s) (f .i)))
-      ∙ ap (λ (r : Res Instruction). andThen r (λ (i : Instruction). (λ (c : Core). andThen (execute (i .op) (i .x) (i .y) (i .r₁) (i .r₂) c) (λ (q : Request). return (record { cost = i .cycles; request = q }))))) (fetched true e)
+attempt-is : (l : List ℤ) (s : Registers) (f : Fetched) → Fetches l s f → attempted (f .i .cost) (requested l f) ≡ M.attempt (core l s)
+unfolding M.attempt andThen
+attempt-is l s f h = at (f .ok) ∙ ap then (h .is)
+  where
+    then : Res Instruction → Res Executed
+    then r = andThen r (λ (i : Instruction). (λ (c : Core). andThen (execute (i .op) (i .x) (i .y) (i .r₁) (i .r₂) c) (λ (q : Request). return (record { cost = i .cycles; request = q }))))
 
-  attempt-err : f .ok ≡ false → err (f .error) (core l (f .s)) ≡ M.attempt (core l s)
-  unfolding M.attempt andThen
-  attempt-err e =
-      ap (λ (r : Res Instruction). andThen r (λ (i : Instruction). (λ (c : Core). andThen (execute (i .op) (i .x) (i .y) (i .r₁) (i .r₂) c) (λ (q : Request). return (record { cost = i .cycles; request = q }))))) (fetched false e)
+    at : (b : Bool) → attempted (f .i .cost) (cond b (executedAt l (f .s) (f .i)) (err (f .error) (core l (f .s)))) ≡ then (result (instrOf (f .i)) b (f .error) (core l (f .s)))
+    at true = sym (attempted-is (f .i .cost) (executedAt l (f .s) (f .i)))
+    at false = refl
 
-  -- the step's turn, by what came of its instruction
-  pub turn-ok : (q o : List ℕ) (n : ℕ) (k : ConsoleState) (r : Served) → f .ok ≡ true → Serves l q (length o) (f .s) k (f .i) r → servedTurn l q o (machine (core l s) n (consoleOf k q o)) (f .i .cost) r ≡ M.turn (machine (core l s) n (consoleOf k q o))
-  unfolding M.turn
-  turn-ok q o n k r e v =
-      v .is o refl (core l s) n
-      ∙ ap (λ (x : Res Executed). M.afterAttempt (machine (core l s) n (consoleOf k q o)) x) (attempt-ok e)
+-- what is served where an instruction was fetched, and where none was
+module _ (l : List ℤ) (q : List ℕ) (size : ℕ) (k : ConsoleState) (f : Fetched) where
+  pub served-ok : f .ok ≡ true → (r : Served) → Serves l q size k (f .i .cost) (executedAt l (f .s) (f .i)) r → Serves l q size k (f .i .cost) (requested l f) r
+  served-ok h r v = rw h v
 
-  pub turn-err : cellCount l ≤ 10000 → (q o : List ℕ) (n : ℕ) (k : ConsoleState) → f .ok ≡ false → concluded l q o (kept (settled (f .s) (refused (f .error))) k) (f .i .cost) n ≡ M.turn (machine (core l s) n (consoleOf k q o))
-  unfolding M.turn M.afterAttempt M.conclude
-  turn-err few q o n k e =
-      ap (λ (x : List ℤ). M.conclude (f .i .cost) (machine (core x (f .s)) n (consoleOf k q o)) (err (f .error) (core x (f .s)))) (over-no-cell l empty (omega arith))
-      ∙ ap (λ (x : Res Executed). M.afterAttempt (machine (core l s) n (consoleOf k q o)) x) (attempt-err e)
+  pub served-none : cellCount l ≤ 10000 → f .ok ≡ false → Serves l q size k (f .i .cost) (requested l f) (done (unwritten (settled (f .s) (refused (f .error)))) k)
+  served-none few h =
+      rw h (serves-unwritten l q size k (f .i .cost) (err (f .error) (core l (f .s))) few (settled (f .s) (refused (f .error))) refl)
 
 -- ---- the step
-
--- what is decided is what the turn settles to, saved left by stop 7
-pub finish-is : (l : List ℤ) (q o : List ℕ) (saved : State) (e : Performed) (cost cycles : ℕ) (a : Arrival) (d : Decision) → Concludes e cost cycles a → Decides l saved a d → decidedOf l q o d ≡ M.limit (machineAt l q o saved) (M.settle (concluded l q o e cost cycles))
-finish-is l q o saved e cost cycles a d c k = k .is q o ∙ ap (λ (x : M.Turn). M.limit (machineAt l q o saved) (M.settle x)) (c .is l q o)
-
-pub sends-in : (l : List ℤ) (size : ℕ) (saved : State) (e : Performed) (cost cycles : ℕ) (a : Arrival) (d : Decision) → Concludes e cost cycles a → Decides l saved a d → (e .sends ≡ true → e .to < size) → d .sends ≡ true → d .to < size
-sends-in l size saved e cost cycles a d c k room t =
-    let p = k .sends t in
-    subst (λ (n : ℕ). n < size) (sym (p .1 ∙ c .to-is)) (room (sym (c .sends-is) ∙ p .0))
-
--- where no byte waits
-pub no-byte : (e : Performed) {x : Performed} {size : ℕ} → e ≡ x → x .sends ≡ false → e .sends ≡ true → e .to < size
-no-byte e h n t = absurd (true≢false (sym t ∙ ap (λ (y : Performed). y .sends) h ∙ n))
 
 -- a step adds at most its cost and one cycle
 recover-soon : (k : ℕ) (m : Machine) → M.reached (M.recover k m) .cycles ≤ m .cycles + 1
@@ -115,33 +96,55 @@ unfolding M.conclude
 conclude-soon cost m (ok u c) = poll-soon (with-cycles (m .cycles + cost) (with-core c m))
 conclude-soon cost m (err e c) = let h = ends-soon (ending e) (with-core c m) in omega arith
 
-module _ (l : List ℤ) (q o : List ℕ) (m : State) where
+module _ (l : List ℤ) (q o : List ℕ) (m : State) (f : Fetched) (h : Fetches l (m .s) f) where
   abbrev before : Machine
   before = machineAt l q o m
 
-  pub full-step : (cost : ℕ) (r : Served) → m .cycles < CYCLES-END → r .full ≡ true → servedTurn l q o before cost r ≡ M.turn before → M.stopped 6 0 before ≡ M.step before
-  unfolding M.step M.settle M.reached
-  full-step cost r c h e =
-      sym (limit-below before (M.stopped 6 0 before) c)
-      ∙ ap (λ (b : Bool). M.limit before (M.settle (cond b (M.stops 6 0 before) (concluded l q o (r .e) cost (m .cycles))))) (sym h)
-      ∙ ap (λ (t : M.Turn). M.limit before (M.settle t)) e
+  abbrev Served-is : Served → Type 0
+  Served-is r = Serves l q (length o) (m .k) (f .i .cost) (requested l f) r
 
-  pub served-on : (cost : ℕ) (r : Served) → r .full ≡ false → servedTurn l q o before cost r ≡ M.turn before → concluded l q o (r .e) cost (m .cycles) ≡ M.turn before
-  served-on cost r h e =
-      ap (λ (b : Bool). cond b (M.stops 6 0 before) (concluded l q o (r .e) cost (m .cycles))) (sym h) ∙ e
+  turn-is : (r : Served) → Served-is r → servedTurn l q o before (f .i .cost) r ≡ M.turn before
+  unfolding M.turn
+  turn-is r v = v .is o refl (core l (m .s)) (m .cycles) ∙ ap (M.afterAttempt before) (attempt-is l (m .s) f h)
+
+  pub full-step : (r : Served) → Served-is r → m .cycles < CYCLES-END → r .full ≡ true → M.stopped 6 0 before ≡ M.step before
+  unfolding M.step M.settle M.reached
+  full-step r v c t =
+      sym (limit-below before (M.stopped 6 0 before) c)
+      ∙ ap (λ (b : Bool). M.limit before (M.settle (cond b (M.stops 6 0 before) (concluded l q o (r .e) (f .i .cost) (m .cycles))))) (sym t)
+      ∙ ap (λ (t : M.Turn). M.limit before (M.settle t)) (turn-is r v)
+
+  -- far from stop 7 it is all one which machine that would leave
+  pub settled-step : (saved : State) → (NEAR ≤ m .cycles → saved ≡ m) → (e : Performed) → Served-is (record { full = false; e = e }) → (a : Arrival) → Concludes e (f .i .cost) (m .cycles) a → M.limit (machineAt l q o saved) (M.settle (turnOf l q o a)) ≡ M.step before
+  unfolding M.step
+  settled-step saved k e v a c =
+      ap (λ (x : M.Turn). M.limit (machineAt l q o saved) (M.settle x)) (c .is l q o)
+      ∙ go (ltb (m .cycles) NEAR) refl
+      ∙ ap (λ (x : M.Turn). M.limit before (M.settle x)) (turn-is _ v)
+    where
+      went : M.Turn
+      went = concluded l q o e (f .i .cost) (m .cycles)
+
+      go : (b : Bool) → ltb (m .cycles) NEAR ≡ b → M.limit (machineAt l q o saved) (M.settle went) ≡ M.limit before (M.settle went)
+      go true t =
+          let n : m .cycles < NEAR = ltb-true _ _ t in
+          let cheap = h .cheap in
+          let z = conclude-soon (f .i .cost) (effectsAt l q o (m .cycles) (e .f)) (performedRes l e) in
+          limit-below _ _ (omega arith) ∙ sym (limit-below _ _ (omega arith))
+      go false t = ap (λ (x : State). M.limit (machineAt l q o x) (M.settle went)) (k (ltb-false _ _ t))
 
   -- the usual step
-  pub quiet-step : (cost : ℕ) (d : Made) → d .ok ≡ true → quiet (m .k) (m .cycles + cost) ≡ true → concluded l q o (keptMade d (m .k)) cost (m .cycles) ≡ M.turn before → M.completed (machineAt (overlay (d .p .at) (d .p .v) l) q o (record { s = d .p .s; cycles = m .cycles + cost; k = m .k })) ≡ M.step before
+  pub quiet-step : (d : Made) → Served-is (done d (m .k)) → d .ok ≡ true → quiet (m .k) (m .cycles + f .i .cost) ≡ true → M.completed (machineAt (planned l (d .p)) q o (record { s = d .p .s; cycles = m .cycles + f .i .cost; k = m .k })) ≡ M.step before
   unfolding M.step M.settle M.reached M.conclude M.poll
-  quiet-step cost d h t e =
-      let p = quiet-parts (m .k .marks .pending) (ltb (m .cycles + cost) NEAR) t in
-      let n : m .cycles + cost < NEAR = ltb-true _ _ (p .1) in
-      let after : Machine = machineAt (overlay (d .p .at) (d .p .v) l) q o (record { s = d .p .s; cycles = m .cycles + cost; k = m .k }) in
+  quiet-step d v ok-is t =
+      let p = quiet-parts (m .k .marks .pending) (ltb (m .cycles + f .i .cost) NEAR) t in
+      let n : m .cycles + f .i .cost < NEAR = ltb-true _ _ (p .1) in
+      let after : Machine = machineAt (planned l (d .p)) q o (record { s = d .p .s; cycles = m .cycles + f .i .cost; k = m .k }) in
       let z : (interruptEnable (d .p .s) && m .k .marks .pending) ≡ false = ap (λ (b : Bool). interruptEnable (d .p .s) && b) (p .0) ∙ and-false (interruptEnable (d .p .s)) in
       sym (limit-below before (M.completed after) (omega arith))
       ∙ ap (λ (b : Bool). M.limit before (M.settle (cond b (M.enters HARDWARE-INTERRUPT (with-mark false after)) (M.completes after)))) (sym z)
-      ∙ ap (λ (b : Bool). M.limit before (M.settle (M.conclude cost (performedAt l q o (keptMade d (m .k)) (m .cycles)) (result tt b (d .error) (core (overlay (d .p .at) (d .p .v) l) (d .p .s)))))) (sym h)
-      ∙ ap (λ (x : M.Turn). M.limit before (M.settle x)) e
+      ∙ ap (λ (b : Bool). M.limit before (M.settle (M.conclude (f .i .cost) (effectsAt l q o (m .cycles) (unsent (d .p) (m .k))) (result tt b (d .error) (coreOf l (d .p)))))) (sym ok-is)
+      ∙ ap (λ (x : M.Turn). M.limit before (M.settle x)) (turn-is _ v)
     where
       quiet-parts : (a b : Bool) → (not a && b) ≡ true → (a ≡ false) × (b ≡ true)
       quiet-parts true b t = absurd (true≢false (sym t))
@@ -151,23 +154,10 @@ module _ (l : List ℤ) (q o : List ℕ) (m : State) where
       and-false true = refl
       and-false false = refl
 
-  pub quiet-unwritten : (cost : ℕ) (d : Made) → cellCount l ≤ d .p .at → d .ok ≡ true → quiet (m .k) (m .cycles + cost) ≡ true → concluded l q o (keptMade d (m .k)) cost (m .cycles) ≡ M.turn before → M.completed (machineAt l q o (record { s = d .p .s; cycles = m .cycles + cost; k = m .k })) ≡ M.step before
-  quiet-unwritten cost d out h t e =
-      ap (λ (x : List ℤ). M.completed (machineAt x q o (record { s = d .p .s; cycles = m .cycles + cost; k = m .k }))) (sym (over-none l (d .p .at) (d .p .v) out))
-      ∙ quiet-step cost d h t e
-
-  -- any other
-  pub finished-step : (saved : State) (cost : ℕ) (e : Performed) → cost ≤ 3 → (NEAR ≤ m .cycles → saved ≡ m) → concluded l q o e cost (m .cycles) ≡ M.turn before → M.limit (machineAt l q o saved) (M.settle (concluded l q o e cost (m .cycles))) ≡ M.step before
-  unfolding M.step
-  finished-step saved cost e c k t = go (ltb (m .cycles) NEAR) refl ∙ ap (λ (x : M.Turn). M.limit before (M.settle x)) t
-    where
-      go : (b : Bool) → ltb (m .cycles) NEAR ≡ b → M.limit (machineAt l q o saved) (M.settle (concluded l q o e cost (m .cycles))) ≡ M.limit before (M.settle (concluded l q o e cost (m .cycles)))
-      go true h =
-          let n : m .cycles < NEAR = ltb-true _ _ h in
-          let z = conclude-soon cost (performedAt l q o e (m .cycles)) (performedRes l e) in
-          limit-below _ _ (omega arith) ∙ sym (limit-below _ _ (omega arith))
-      go false h =
-          ap (λ (x : State). M.limit (machineAt l q o x) (M.settle (concluded l q o e cost (m .cycles)))) (k (ltb-false _ _ h))
+  pub quiet-unwritten : (d : Made) → cellCount l ≤ d .p .at → Served-is (done d (m .k)) → d .ok ≡ true → quiet (m .k) (m .cycles + f .i .cost) ≡ true → M.completed (machineAt l q o (record { s = d .p .s; cycles = m .cycles + f .i .cost; k = m .k })) ≡ M.step before
+  quiet-unwritten d out v ok-is t =
+      ap (λ (x : List ℤ). M.completed (machineAt x q o (record { s = d .p .s; cycles = m .cycles + f .i .cost; k = m .k }))) (sym (over-none l (d .p .at) (d .p .v) out))
+      ∙ quiet-step d v ok-is t
 
 -- ---- the run
 

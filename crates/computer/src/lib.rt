@@ -2,28 +2,17 @@
 use console::ConsoleState;
 use definition::Registers;
 use runtime::State;
-use runtime::arrive::Performed;
+use runtime::Stepped;
 ghost use mathlib.Core.Path.{_≡_};
 ghost use mathlib.Core.Bool.{true, false};
-ghost use mathlib.Core.List.{List};
-ghost use Prim.Native.Nat.{ℕ, _<_, _≤_, _^_};
-ghost use lib.ListN.{length};
-ghost use Rattle.definition.specs.Memory.{cellCount};
-ghost use Rattle.definition.specs.Runtime.{limit, settle, step, run};
+ghost use Prim.Native.Nat.{_≤_};
+ghost use Rattle.definition.specs.Runtime.{step, run};
 ghost use Rattle.definition.specs.Accepted.{AcceptedMachine};
-ghost use Rattle.runtime.specs.Meaning.{machineAt, outcomeAt, concluded};
+ghost use Rattle.runtime.specs.Meaning.{machineAt, steppedOf};
 ghost use Rattle.computer.specs.Meaning.{NEAR, quiet, endedOf};
 
 // "0 budget spent"
 const BUDGET_SPENT: u32 = 0;
-
-// Where a step got: completed, or a stop with its detail.
-pub struct Stepped {
-    pub completed: bool,
-    pub stop: u32,
-    pub detail: u32,
-    pub m: State,
-}
 
 // Where a run got.
 pub struct Ended {
@@ -31,6 +20,18 @@ pub struct Ended {
     pub detail: u32,
     pub steps: u32,
     pub m: State,
+}
+
+// Stop 6: the machine before the step.
+fn output_full(m: State) -> Stepped
+    ensures { λ r. ⌜ r ≡ record { completed = false; stop = 6; detail = 0; m = m } ⌝ }
+{
+    Stepped {
+        completed: false,
+        stop: 6,
+        detail: 0,
+        m,
+    }
 }
 
 // No interrupt is due, and no step that ends with so many cycles is near stop 7.
@@ -57,50 +58,11 @@ fn completes(s: Registers, cycles: u64, k: ConsoleState) -> Stepped
     }
 }
 
-// Stop 6: the machine before the step.
-fn output_full(m: State) -> Stepped
-    ensures { λ r. ⌜ r ≡ record { completed = false; stop = 6; detail = 0; m = m } ⌝ }
-{
-    Stepped {
-        completed: false,
-        stop: 6,
-        detail: 0,
-        m,
-    }
-}
-
-// The rest of the step, whatever the instruction e came to: poll, exception entry, stop 7, which leaves `saved`.
-fn finish(
-    cells: &mut [i64],
-    output: &mut [u8],
-    saved: State,
-    e: Performed,
-    cost: u64,
-    cycles: u64,
-) -> Stepped
-    requires { do ⌜ (256 ≤ cellCount (now cells)) × (cellCount (now cells) ≤ 10000) ⌝; ⌜ (cycles < 2 ^ 63) × (cost ≤ 3) ⌝; ⌜ (e .sends ≡ true → e .to < length (now output)) ⌝ }
-    ensures { λ r. ⌜ ((q : List ℕ) → outcomeAt (r .completed) (r .stop) (r .detail) (machineAt (now (cells .exit)) q (now (output .exit)) (r .m)) ≡ limit (machineAt (now (cells .entry)) q (now (output .entry)) saved) (settle (concluded (now (cells .entry)) q (now (output .entry)) e cost cycles))) ⌝ }
-{
-    let a = runtime::arrive::conclude(e, cost, cycles);
-    let d = runtime::decide::decide(cells, saved, a);
-    let v = d.v;
-    let after = d.m;
-    runtime::entry::write_over(cells, d.at, v);
-    runtime::commit::save_entry(cells, d.enters, d.pc, d.sr, d.code);
-    runtime::commit::send(output, d.sends, d.to, d.byte);
-    Stepped {
-        completed: d.completed,
-        stop: d.stop,
-        detail: d.detail,
-        m: after,
-    }
-}
-
-// Computer::step. `saved` is m wherever stop 7 could come. An instruction that leaves nothing else to do is the usual case, and goes first;
-// with a cell to write and without are apart, so that the one without carries no cell (docs/SPEED.md).
+// Computer::step: fetch, execute or ask, conclude; then what is decided is written. `saved` is m wherever stop 7 could come. An instruction
+// that leaves nothing else to do is the usual case, and is written at once; without a cell to write nothing is (docs/SPEED.md).
 pub fn step(cells: &mut [i64], queue: &[u8], output: &mut [u8], saved: State, m: State) -> Stepped
     requires { do ⌜ AcceptedMachine (machineAt (now cells) (now queue) (now output) m) ⌝; ⌜ (NEAR ≤ m .cycles → saved ≡ m) ⌝ }
-    ensures { λ r. ⌜ outcomeAt (r .completed) (r .stop) (r .detail) (machineAt (now (cells .exit)) (now (queue .entry)) (now (output .exit)) (r .m)) ≡ step (machineAt (now (cells .entry)) (now (queue .entry)) (now (output .entry)) m) ⌝ }
+    ensures { λ r. ⌜ steppedOf (now (cells .exit)) (now (queue .entry)) (now (output .exit)) r ≡ step (machineAt (now (cells .entry)) (now (queue .entry)) (now (output .entry)) m) ⌝ }
 {
     let s = m.s;
     let k = m.k;
@@ -109,7 +71,7 @@ pub fn step(cells: &mut [i64], queue: &[u8], output: &mut [u8], saved: State, m:
     let i = f.i;
     let error = f.error;
     let n = m.cycles + i.cost;
-    let mut e = runtime::perform::keep(registers::refuse(t, error), k);
+    let mut e = runtime::perform::performed(stores::with_none(registers::refuse(t, error)), k);
     if f.ok {
         let op = i.op;
         let x = i.x;
@@ -131,16 +93,16 @@ pub fn step(cells: &mut [i64], queue: &[u8], output: &mut [u8], saved: State, m:
                     }
                 } else {
                     if is_quiet(k, n) {
-                        let v = p.v;
-                        runtime::entry::write_over(cells, p.at, v);
+                        runtime::commit::write(cells, output, p, false, 0, false, 0, 0);
                         return completes(u, n, k);
                     }
                 }
             }
-            e = runtime::perform::keep_made(d, k);
+            e = runtime::perform::performed(d, k);
         }
     }
-    finish(cells, output, saved, e, i.cost, m.cycles)
+    let a = runtime::arrive::conclude(e, i.cost, m.cycles);
+    runtime::settle::settle(cells, output, saved, a)
 }
 
 // Computer::run, on a budget.

@@ -25,7 +25,7 @@ use Rattle.registers.specs.declared.Put.{Put}
 use Rattle.registers.specs.Meaning.{result, answer, putRes}
 use Rattle.arguments.specs.Operands.{argOf}
 use Rattle.stores.specs.declared.Made.{Made}
-use Rattle.stores.specs.Meaning.{made}
+use Rattle.stores.specs.Meaning.{coreOf, made, unwritten}
 use Rattle.instructions.specs.Meaning.{asker}
 use Rattle.encoding.specs.declared.Instr.{Instr}
 use Rattle.console.specs.declared.ConsoleState.{ConsoleState}
@@ -33,11 +33,8 @@ use Rattle.console.specs.declared.Sent.{Sent}
 use Rattle.console.specs.Meaning.{consoleOf, Sends}
 use Rattle.runtime.specs.declared.arrive.Performed.{Performed}
 use Rattle.runtime.specs.declared.perform.Served.{Served}
-use Rattle.runtime.specs.Meaning.{sent, performedRes, kept, keptMade, attempted, executedAt, servedTurn, Serves}
+use Rattle.runtime.specs.Meaning.{sent, done, attempted, executedAt, Serves}
 use Rattle.memory.proofs.Laws.{over-no-cell}
-
-abbrev done : Performed → Served
-done e = record { full = false; e = e }
 
 -- in is operation 6, out operation 20
 pub is-in : (l : List ℤ) (s : Registers) (i : Instr) → i .op ≡ 6 → inOp (argOf (i .x)) (regAt (i .y .reg)) (core l s) ≡ executedAt l s i
@@ -63,47 +60,44 @@ unfolding M.afterAttempt M.serve M.conclude
 after-result c d n k cost true e = refl
 after-result c d n k cost false e = refl
 
-module _ (l : List ℤ) (q : List ℕ) (size : ℕ) (s : Registers) (k : ConsoleState) (i : Instr) where
+module _ (l : List ℤ) (q : List ℕ) (size : ℕ) (k : ConsoleState) (cost : ℕ) (x : Res Request) where
+  pub serves-made : (d : Made) → made nothing l d ≡ x → Serves l q size k cost x (done d k)
+  serves-made d e =
+      record {
+        is = λ o _ c n. after-result c (coreOf l (d .p)) n (consoleOf k q o) cost (d .ok) (d .error) ∙ ap (λ (r : Res Request). M.afterAttempt (machine c n (consoleOf k q o)) (attempted cost r)) e;
+        room = λ _ t. absurd (true≢false (sym t));
+      }
+
   -- no cell waits
   none-waits : cellCount l ≤ 10000 → overlay NO-CELL empty l ≡ l
   none-waits h = over-no-cell l empty (omega arith)
 
-  pub serves-kept : cellCount l ≤ 10000 → (p : Put) → answer nothing l p ≡ executedAt l s i → Serves l q size s k i (done (kept p k))
-  serves-kept h p e =
-      record {
-        is = λ o _ c n. ap (λ (x : List ℤ). M.conclude (i .cost) (machine (core x (p .s)) n (consoleOf k q o)) (result tt (p .ok) (p .error) (core x (p .s)))) (none-waits h) ∙ after-result c (core l (p .s)) n (consoleOf k q o) (i .cost) (p .ok) (p .error) ∙ ap (λ (r : Res Request). M.afterAttempt (machine c n (consoleOf k q o)) (attempted (i .cost) r)) e;
-        room = λ _ t. absurd (true≢false (sym t));
-      }
-
-  pub serves-made : (d : Made) → made nothing l d ≡ executedAt l s i → Serves l q size s k i (done (keptMade d k))
-  serves-made d e =
-      record {
-        is = λ o _ c n. after-result c (core (overlay (d .p .at) (d .p .v) l) (d .p .s)) n (consoleOf k q o) (i .cost) (d .ok) (d .error) ∙ ap (λ (r : Res Request). M.afterAttempt (machine c n (consoleOf k q o)) (attempted (i .cost) r)) e;
-        room = λ _ t. absurd (true≢false (sym t));
-      }
+  pub serves-unwritten : cellCount l ≤ 10000 → (p : Put) → answer nothing l p ≡ x → Serves l q size k cost x (done (unwritten p) k)
+  serves-unwritten h p e =
+      serves-made (unwritten p) (ap (λ (y : List ℤ). result nothing (p .ok) (p .error) (core y (p .s))) (none-waits h) ∙ e)
 
   -- in
-  pub serves-input : cellCount l ≤ 10000 → (t : Registers) (port value : ℕ) (r : Reg) (k' : ConsoleState) (p : Put) → ok (reads port r) (core l t) ≡ executedAt l s i → ((o : List ℕ) → (value, consoleOf k' q o) ≡ readPort port (consoleOf k q o)) → putRes l p ≡ setRegister r (word (pos value)) (core l t) → Serves l q size s k i (done (kept p k'))
+  pub serves-input : cellCount l ≤ 10000 → (t : Registers) (port value : ℕ) (r : Reg) (k' : ConsoleState) (p : Put) → ok (reads port r) (core l t) ≡ x → ((o : List ℕ) → (value, consoleOf k' q o) ≡ readPort port (consoleOf k q o)) → putRes l p ≡ setRegister r (word (pos value)) (core l t) → Serves l q size k cost x (done (unwritten p) k')
   unfolding M.afterAttempt M.serve
   serves-input h t port value r k' p e f g =
       record {
         is = λ o _ c n.
-            ap (λ (x : List ℤ). M.conclude (i .cost) (machine (core x (p .s)) n (consoleOf k' q o)) (result tt (p .ok) (p .error) (core x (p .s)))) (none-waits h)
-            ∙ conclude-core (i .cost) (core l (p .s)) (machine c n (consoleOf k' q o)) (putRes l p)
-            ∙ ap (λ (x : Res (Unit {0})). M.conclude (i .cost) (machine c n (consoleOf k' q o)) x) g
-            ∙ ap (λ (y : ℕ × Console). M.conclude (i .cost) (machine c n (y .1)) (setRegister r (word (pos (y .0))) (core l t))) (f o)
-            ∙ ap (λ (x : Res Request). M.afterAttempt (machine c n (consoleOf k q o)) (attempted (i .cost) x)) e;
+            ap (λ (x : List ℤ). M.conclude cost (machine (core x (p .s)) n (consoleOf k' q o)) (result tt (p .ok) (p .error) (core x (p .s)))) (none-waits h)
+            ∙ conclude-core cost (core l (p .s)) (machine c n (consoleOf k' q o)) (putRes l p)
+            ∙ ap (λ (x : Res (Unit {0})). M.conclude cost (machine c n (consoleOf k' q o)) x) g
+            ∙ ap (λ (y : ℕ × Console). M.conclude cost (machine c n (y .1)) (setRegister r (word (pos (y .0))) (core l t))) (f o)
+            ∙ ap (λ (x : Res Request). M.afterAttempt (machine c n (consoleOf k q o)) (attempted cost x)) e;
         room = λ _ z. absurd (true≢false (sym z));
       }
 
   -- out
-  pub serves-full : (t : Registers) (port : ℕ) (w : ℤ) (p : Performed) → ok (writes port w) (core l t) ≡ executedAt l s i → ((q o : List ℕ) → length o ≡ size → true ≡ outputFull port (consoleOf k q o)) → Serves l q size s k i (record { full = true; e = p })
+  pub serves-full : (t : Registers) (port : ℕ) (w : ℤ) (p : Performed) → ok (writes port w) (core l t) ≡ x → ((q o : List ℕ) → length o ≡ size → true ≡ outputFull port (consoleOf k q o)) → Serves l q size k cost x (record { full = true; e = p })
   unfolding M.afterAttempt M.serve
   serves-full t port w p e f =
       record {
         is = λ o h c n.
-            ap (λ (b : Bool). cond b (M.stops OUTPUT-FULL 0 (machine c n (consoleOf k q o))) (M.conclude (i .cost) (machine c n (writePort port w (consoleOf k q o))) (ok tt (core l t)))) (f q o h)
-            ∙ ap (λ (x : Res Request). M.afterAttempt (machine c n (consoleOf k q o)) (attempted (i .cost) x)) e;
+            ap (λ (b : Bool). cond b (M.stops OUTPUT-FULL 0 (machine c n (consoleOf k q o))) (M.conclude cost (machine c n (writePort port w (consoleOf k q o))) (ok tt (core l t)))) (f q o h)
+            ∙ ap (λ (x : Res Request). M.afterAttempt (machine c n (consoleOf k q o)) (attempted cost x)) e;
         room = λ z _. absurd (true≢false z);
       }
 
@@ -116,15 +110,15 @@ module _ (l : List ℤ) (q : List ℕ) (size : ℕ) (s : Registers) (k : Console
       let t : k .written < length (replicate {A = ℕ} size 0) = leb-false _ _ r in
       omega arith
 
-  pub serves-sent : cellCount l ≤ 10000 → (t : Registers) (port : ℕ) (w : ℤ) (x : Sent) (error : Error) → ok (writes port w) (core l t) ≡ executedAt l s i → ((q o : List ℕ) → length o ≡ size → false ≡ outputFull port (consoleOf k q o)) → Sends k port w x → Serves l q size s k i (done (record { ok = true; error = error; s = t; at = NO-CELL; v = empty; k = x .k; sends = x .sends; to = k .written; byte = x .byte }))
+  pub serves-sent : cellCount l ≤ 10000 → (t : Registers) (port : ℕ) (w : ℤ) (y : Sent) (error : Error) → ok (writes port w) (core l t) ≡ x → ((q o : List ℕ) → length o ≡ size → false ≡ outputFull port (consoleOf k q o)) → Sends k port w y → Serves l q size k cost x (record { full = false; e = record { ok = true; error = error; f = record { p = record { s = t; at = NO-CELL; v = empty }; k = y .k; sends = y .sends; to = k .written; byte = y .byte } } })
   unfolding M.afterAttempt M.serve
-  serves-sent h t port w x error e f g =
+  serves-sent h t port w y error e f g =
       record {
         is = λ o z c n.
-            ap (λ (y : List ℤ). M.conclude (i .cost) (machine (core y t) n (consoleOf (x .k) q (sent (x .sends) (k .written) (x .byte) o))) (ok tt (core y t))) (none-waits h)
-            ∙ conclude-core (i .cost) (core l t) (machine c n (consoleOf (x .k) q (sent (x .sends) (k .written) (x .byte) o))) (ok tt (core l t))
-            ∙ ap (λ (y : Console). M.conclude (i .cost) (machine c n y) (ok tt (core l t))) (g .is q o)
-            ∙ ap (λ (b : Bool). cond b (M.stops OUTPUT-FULL 0 (machine c n (consoleOf k q o))) (M.conclude (i .cost) (machine c n (writePort port w (consoleOf k q o))) (ok tt (core l t)))) (f q o z)
-            ∙ ap (λ (y : Res Request). M.afterAttempt (machine c n (consoleOf k q o)) (attempted (i .cost) y)) e;
+            ap (λ (v : List ℤ). M.conclude cost (machine (core v t) n (consoleOf (y .k) q (sent (y .sends) (k .written) (y .byte) o))) (ok tt (core v t))) (none-waits h)
+            ∙ conclude-core cost (core l t) (machine c n (consoleOf (y .k) q (sent (y .sends) (k .written) (y .byte) o))) (ok tt (core l t))
+            ∙ ap (λ (v : Console). M.conclude cost (machine c n v) (ok tt (core l t))) (g .is q o)
+            ∙ ap (λ (b : Bool). cond b (M.stops OUTPUT-FULL 0 (machine c n (consoleOf k q o))) (M.conclude cost (machine c n (writePort port w (consoleOf k q o))) (ok tt (core l t)))) (f q o z)
+            ∙ ap (λ (v : Res Request). M.afterAttempt (machine c n (consoleOf k q o)) (attempted cost v)) e;
         room = λ _ z. room-for port f (g .port-is z);
       }

@@ -7,6 +7,7 @@ use lib.IntN.{ℤ, pos}
 use lib.ListN.{length, set}
 use Rattle.definition.specs.declared.Cell.{Cell}
 use Rattle.definition.specs.declared.Registers.{Registers}
+use Rattle.definition.specs.Constants.{CYCLES-END}
 use Rattle.definition.specs.Exception.{Ending, exception, stop, OUTPUT-FULL}
 use Rattle.definition.specs.Memory.{empty}
 use Rattle.definition.specs.Registers.{interruptEnable}
@@ -16,16 +17,19 @@ use Rattle.definition.specs.Encoding.{Instruction, extractInstruction}
 use Rattle.definition.specs.Exec.{Core, Res, ok, err, core}
 use Rattle.definition.specs.Runtime.{Machine, machine, orInstruction, saved, Executed}
 use Rattle.definition.specs.Runtime as M
-use Rattle.memory.specs.Overlay.{overlay, NO-CELL}
+use Rattle.memory.specs.Overlay.{NO-CELL}
 use Rattle.registers.specs.Meaning.{result}
-use Rattle.registers.specs.declared.Put.{Put}
+use Rattle.stores.specs.declared.Plan.{Plan}
 use Rattle.stores.specs.declared.Made.{Made}
+use Rattle.stores.specs.Meaning.{planned, coreOf}
 use Rattle.arguments.specs.declared.Arg.{Arg}
 use Rattle.encoding.specs.declared.Instr.{Instr}
 use Rattle.encoding.specs.Meaning.{instrOf}
 use Rattle.console.specs.declared.ConsoleState.{ConsoleState}
 use Rattle.console.specs.Meaning.{consoleOf}
 use Rattle.runtime.specs.declared.State.{State}
+use Rattle.runtime.specs.declared.Stepped.{Stepped}
+use Rattle.runtime.specs.declared.effects.Effects.{Effects}
 use Rattle.runtime.specs.declared.ending.Ends.{Ends}
 use Rattle.runtime.specs.declared.fetch.Fetched.{Fetched}
 use Rattle.runtime.specs.declared.arrive.Performed.{Performed}
@@ -63,57 +67,71 @@ pub record Fetches (l : List ℤ) (s : Registers) (r : Fetched) : Type 0 where
   pub known : r .i .op < 33
   pub cheap : r .i .cost ≤ 3
 
--- ---- up to exception entry
+-- ---- what a step does
 
--- The byte that waits, and what exception entry saves.
+-- The byte that waits.
 abbrev pub sent : Bool → ℕ → ℕ → List ℕ → List ℕ
 sent sends to byte o = cond sends (set o to byte) o
 
+-- What exception entry saves, and the cells with the plan's write done before it.
 abbrev pub saves : Bool → ℕ → ℤ → ℕ → List ℤ → List ℤ
 saves enters pc sr code l = cond enters (saved pc sr code l) l
 
-abbrev pub performedRes : List ℤ → Performed → Res (Unit {0})
-performedRes l e = result tt (e .ok) (e .error) (core (overlay (e .at) (e .v) l) (e .s))
+abbrev pub written : Bool → ℕ → Plan → List ℤ → List ℤ
+written enters code p l = saves enters (p .s .pc) (p .s .sr) code (planned l p)
 
-abbrev pub arrivedAt : List ℤ → List ℕ → List ℕ → Arrival → Machine
-arrivedAt l q o a =
-    machine (core (overlay (a .at) (a .v) l) (a .s)) (a .cycles) (consoleOf (a .k) q (sent (a .sends) (a .to) (a .byte) o))
+-- A byte that waits has its place in an output record of this size.
+abbrev pub Room : ℕ → Effects → Type 0
+Room size f = f .sends ≡ true → f .to < size
+
+-- The machine with the effects done, after so many cycles.
+abbrev pub effectsAt : List ℤ → List ℕ → List ℕ → ℕ → Effects → Machine
+effectsAt l q o n f = machine (coreOf l (f .p)) n (consoleOf (f .k) q (sent (f .sends) (f .to) (f .byte) o))
+
+-- No byte waits, or nothing does.
+abbrev pub unsent : Plan → ConsoleState → Effects
+unsent p k = record { p = p; k = k; sends = false; to = 0; byte = 0 }
+
+abbrev pub unchanged : Registers → ConsoleState → Effects
+unchanged s k = unsent (record { s = s; at = NO-CELL; v = empty }) k
+
+-- ---- up to exception entry
+
+abbrev pub performedRes : List ℤ → Performed → Res (Unit {0})
+performedRes l e = result tt (e .ok) (e .error) (coreOf l (e .f .p))
 
 abbrev pub turnAt : Bool → Bool → ℕ → ℕ → Machine → M.Turn
 turnAt enters stops n d m = cond enters (M.enters n m) (cond stops (M.stops n d m) (M.completes m))
 
 abbrev pub turnOf : List ℤ → List ℕ → List ℕ → Arrival → M.Turn
-turnOf l q o a = turnAt (a .enters) (a .stops) (a .number) (a .detail) (arrivedAt l q o a)
+turnOf l q o a = turnAt (a .enters) (a .stops) (a .number) (a .detail) (effectsAt l q o (a .cycles) (a .f))
 
 -- Is an interrupt due, and the console after the poll: "if I is set, the pending mark is taken".
 abbrev pub polled : Registers → ConsoleState → Polled
 polled s k =
     record { due = interruptEnable s && k .marks .pending; k = cond (interruptEnable s) (record { marks = with-pending false (k .marks); start = k .start; count = k .count; written = k .written }) k }
 
--- The machine as the executed instruction e leaves it, before its cost is added.
-abbrev pub performedAt : List ℤ → List ℕ → List ℕ → Performed → ℕ → Machine
-performedAt l q o e cycles =
-    machine (core (overlay (e .at) (e .v) l) (e .s)) cycles (consoleOf (e .k) q (sent (e .sends) (e .to) (e .byte) o))
-
 -- The executed instruction e, with its cost, from so many cycles on.
 abbrev pub concluded : List ℤ → List ℕ → List ℕ → Performed → ℕ → ℕ → M.Turn
-concluded l q o e cost cycles = M.conclude cost (performedAt l q o e cycles) (performedRes l e)
+concluded l q o e cost cycles = M.conclude cost (effectsAt l q o cycles (e .f)) (performedRes l e)
 
 pub record Concludes (e : Performed) (cost cycles : ℕ) (a : Arrival) : Type 0 where
   pub is : (l : List ℤ) (q o : List ℕ) → turnOf l q o a ≡ concluded l q o e cost cycles
-  pub sends-is : a .sends ≡ e .sends
-  pub to-is : a .to ≡ e .to
+  pub room : (size : ℕ) → Room size (e .f) → Room size (a .f)
   pub soon : a .cycles ≤ cycles + cost
+
+-- A step that arrives at entry with this code and has done nothing else.
+abbrev pub raising : State → ℕ → Arrival
+raising m code =
+    record { enters = true; stops = false; number = code; detail = 0; cycles = m .cycles; f = unchanged (m .s) (m .k) }
 
 -- ---- an instruction with the console's part
 
-abbrev pub kept : Put → ConsoleState → Performed
-kept q k =
-    record { ok = q .ok; error = q .error; s = q .s; at = NO-CELL; v = empty; k = k; sends = false; to = 0; byte = 0 }
+abbrev pub performed : Made → ConsoleState → Performed
+performed d k = record { ok = d .ok; error = d .error; f = unsent (d .p) k }
 
-abbrev pub keptMade : Made → ConsoleState → Performed
-keptMade d k =
-    record { ok = d .ok; error = d .error; s = d .p .s; at = d .p .at; v = d .p .v; k = k; sends = false; to = 0; byte = 0 }
+abbrev pub done : Made → ConsoleState → Served
+done d k = record { full = false; e = performed d k }
 
 -- An executed instruction with its cost.
 abbrev pub attempted : ℕ → Res Request → Res Executed
@@ -128,24 +146,29 @@ abbrev pub servedTurn : List ℤ → List ℕ → List ℕ → Machine → ℕ �
 servedTurn l q o m cost r =
     cond (r .full) (M.stops OUTPUT-FULL 0 m) (concluded l q o (r .e) cost (m .cycles))
 
--- The output record has this size; c and n are any cells, registers and cycles of the machine before the step.
-pub record Serves (l : List ℤ) (q : List ℕ) (size : ℕ) (s : Registers) (k : ConsoleState) (i : Instr) (r : Served) : Type 0 where
-  pub is : (o : List ℕ) → length o ≡ size → (c : Core) (n : ℕ) → servedTurn l q o (machine c n (consoleOf k q o)) (i .cost) r ≡ M.afterAttempt (machine c n (consoleOf k q o)) (attempted (i .cost) (executedAt l s i))
-  pub room : r .full ≡ false → r .e .sends ≡ true → r .e .to < size
+-- What x asks is served. The output record has this size; c and n are any cells, registers and cycles of the machine before the step.
+pub record Serves (l : List ℤ) (q : List ℕ) (size : ℕ) (k : ConsoleState) (cost : ℕ) (x : Res Request) (r : Served) : Type 0 where
+  pub is : (o : List ℕ) → length o ≡ size → (c : Core) (n : ℕ) → servedTurn l q o (machine c n (consoleOf k q o)) cost r ≡ M.afterAttempt (machine c n (consoleOf k q o)) (attempted cost x)
+  pub room : r .full ≡ false → Room size (r .e .f)
 
 -- ---- the step decided
 
 abbrev pub outcomeAt : Bool → ℕ → ℕ → Machine → M.Outcome
 outcomeAt b n d m = cond b (M.completed m) (M.stopped n d m)
 
-abbrev pub decidedAt : List ℤ → List ℕ → List ℕ → Decision → Machine
-decidedAt l q o d =
-    machineAt (saves (d .enters) (d .pc) (d .sr) (d .code) (overlay (d .at) (d .v) l)) q (sent (d .sends) (d .to) (d .byte) o) (d .m)
+abbrev pub steppedOf : List ℤ → List ℕ → List ℕ → Stepped → M.Outcome
+steppedOf l q o r = outcomeAt (r .completed) (r .stop) (r .detail) (machineAt l q o (r .m))
 
-abbrev pub decidedOf : List ℤ → List ℕ → List ℕ → Decision → M.Outcome
-decidedOf l q o d = outcomeAt (d .completed) (d .stop) (d .detail) (decidedAt l q o d)
+-- What the one writer leaves: the effects, and after them exception entry, if it comes.
+abbrev pub committed : Bool → List ℤ → List ℕ → List ℕ → Arrival → Machine
+committed enters l q o a =
+    cond enters (M.entered (a .number) (effectsAt l q o (a .cycles) (a .f))) (effectsAt l q o (a .cycles) (a .f))
 
-pub record Decides (l : List ℤ) (m : State) (a : Arrival) (d : Decision) : Type 0 where
-  pub is : (q o : List ℕ) → decidedOf l q o d ≡ M.limit (machineAt l q o m) (M.settle (turnOf l q o a))
-  -- a byte is sent only where the arrival sends it
-  pub sends : d .sends ≡ true → (a .sends ≡ true) × (d .to ≡ a .to)
+-- Stop 7 leaves m, the machine before the step.
+abbrev pub decidedOf : List ℤ → List ℕ → List ℕ → State → Arrival → Decision → M.Outcome
+decidedOf l q o m a d =
+    outcomeAt (d .completed) (d .stop) (d .detail) (cond (d .full) (machineAt l q o m) (committed (d .enters) l q o a))
+
+pub record Decides (l : List ℤ) (a : Arrival) (d : Decision) : Type 0 where
+  pub is : (m : State) (q o : List ℕ) → decidedOf l q o m a d ≡ M.limit (machineAt l q o m) (M.settle (turnOf l q o a))
+  pub soon : d .enters ≡ true → a .cycles + 1 < CYCLES-END

@@ -6,14 +6,25 @@ use definition::Registers;
 pub mod arrive;
 pub mod commit;
 pub mod decide;
+pub mod effects;
 pub mod ending;
 pub mod entry;
 pub mod fetch;
 pub mod perform;
+pub mod raise;
+pub mod settle;
 
 // Computer, without the lent cells, queue and output record.
 pub struct State {
     pub s: Registers,
     pub cycles: u64,
     pub k: ConsoleState,
+}
+
+// Where a step got: completed, or a stop with its detail.
+pub struct Stepped {
+    pub completed: bool,
+    pub stop: u32,
+    pub detail: u32,
+    pub m: State,
 }

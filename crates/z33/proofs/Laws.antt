@@ -10,7 +10,6 @@ use borrow.Author.Tests.{ltb-true}
 use Rattle.definition.specs.declared.Ran.{Ran}
 use Rattle.definition.specs.declared.Raised.{Raised}
 use Rattle.definition.specs.Constants.{CYCLES-END}
-use Rattle.definition.specs.Memory.{cellCount, empty}
 use Rattle.definition.specs.Exec.{core}
 use Rattle.definition.specs.Io.{Console}
 use Rattle.definition.specs.Runtime as M
@@ -21,12 +20,9 @@ use Rattle.definition.proofs.Row.{accepted-machine}
 use Rattle.definition.proofs.Accepted.{call-is, run-ends}
 use Rattle.console.specs.declared.ConsoleState.{ConsoleState}
 use Rattle.console.specs.Meaning.{consoleOf}
-use Rattle.memory.proofs.Laws.{over-no-cell}
-use Rattle.memory.specs.Overlay.{overlay, NO-CELL}
 use Rattle.runtime.specs.declared.State.{State}
-use Rattle.runtime.specs.declared.arrive.Arrival.{Arrival}
-use Rattle.runtime.specs.declared.decide.Decision.{Decision}
-use Rattle.runtime.specs.Meaning.{machineAt, outcomeAt, decidedAt, decidedOf, Decides}
+use Rattle.runtime.specs.declared.Stepped.{Stepped}
+use Rattle.runtime.specs.Meaning.{machineAt, outcomeAt, steppedOf}
 use Rattle.computer.specs.declared.Ended.{Ended}
 use Rattle.computer.specs.Meaning.{endedOf}
 use Rattle.z33.specs.Meaning.{rowState}
@@ -67,35 +63,45 @@ run-refused b l h = sym (ap (λ (t : Bool). cond t (ran (M.run b (lentMachine l)
 
 -- ---- raise
 
--- the step that does nothing but enter
-abbrev pub raising : State → ℕ → Arrival
-raising m code =
-    record { enters = true; stops = false; number = code; detail = 0; s = m .s; at = NO-CELL; v = empty; cycles = m .cycles; k = m .k; sends = false; to = 0; byte = 0 }
+abbrev pub raisedFrom : List ℤ → ℕ → State → M.Outcome
+raisedFrom l code m = M.limit (machineAt l [] [] m) (M.recover code (machineAt l [] [] m))
 
-module _ (l row : List ℤ) (code : ℕ) (d : Decision) (few : cellCount l ≤ 10000) (h : Decides l (rowState row) (raising (rowState row) code) d) where
-  decided-is : decidedOf l [] [] d ≡ M.limit (quietMachine l row) (M.recover code (quietMachine l row))
-  unfolding M.settle machineOf
-  decided-is =
-      h .is [] []
-      ∙ ap (λ (x : List ℤ). M.limit (machineAt l [] [] (rowState row)) (M.recover code (machineAt x [] [] (rowState row)))) (over-no-cell l empty (omega arith))
+module _ (l row : List ℤ) (code : ℕ) (l' : List ℤ) (x : Stepped) (h : steppedOf l' [] [] x ≡ raisedFrom l code (rowState row)) where
+  abbrev before : Machine
+  before = machineAt l [] [] (rowState row)
 
-  raise-is : passes (raiseCheck l row code) ≡ true → raised l row (M.limit (quietMachine l row) (M.recover code (quietMachine l row))) ≡ raise l row code
-  unfolding raise
+  abbrev after : Machine
+  after = machineAt l' [] [] (x .m)
+
+  outcome-is : (b : Bool) → x .completed ≡ b → outcomeAt b (x .stop) (x .detail) after ≡ M.limit before (M.recover code before)
+  outcome-is b e = ap (λ (c : Bool). outcomeAt c (x .stop) (x .detail) after) (sym e) ∙ h
+
+  raise-is : passes (raiseCheck l row code) ≡ true → raised l row (M.limit before (M.recover code before)) ≡ raise l row code
+  unfolding raise machineOf
   raise-is p =
-      sym (ap (λ (t : Bool). cond t (raised l row (M.limit (quietMachine l row) (M.recover code (quietMachine l row)))) (called (record { refusal = raiseCheck l row code .refusal; place = raiseCheck l row code .place; stop = 0; detail = 0 }) (l, row))) p)
+      sym (ap (λ (t : Bool). cond t (raised l row (M.limit before (M.recover code before))) (called (record { refusal = raiseCheck l row code .refusal; place = raiseCheck l row code .place; stop = 0; detail = 0 }) (l, row))) p)
 
-  pub raise-done : passes (raiseCheck l row code) ≡ true → d .completed ≡ true → (l' row' : List ℤ) → l' ≡ decidedAt l [] [] d .core .cells → row' ≡ rowOf (machine (core [] (d .m .s)) (d .m .cycles) (consoleOf (d .m .k) [] [])) → called (record { refusal = 0; place = 0; stop = 0; detail = 0 }) (l', row') ≡ raise l row code
+  pub raise-done : passes (raiseCheck l row code) ≡ true → x .completed ≡ true → (row' : List ℤ) → row' ≡ rowOf (machine (core [] (x .m .s)) (x .m .cycles) (consoleOf (x .m .k) [] [])) → called (record { refusal = 0; place = 0; stop = 0; detail = 0 }) (l', row') ≡ raise l row code
   unfolding raised rowOf
-  raise-done p c l' row' e f =
-      (λ i. called (record { refusal = 0; place = 0; stop = 0; detail = 0 }) (e i, f i))
-      ∙ ap (λ (b : Bool). raised l row (outcomeAt b (d .stop) (d .detail) (decidedAt l [] [] d))) (sym c)
-      ∙ ap (raised l row) decided-is
-      ∙ raise-is p
+  raise-done p c row' f =
+      (λ i. called (record { refusal = 0; place = 0; stop = 0; detail = 0 }) (l', f i)) ∙ ap (raised l row) (outcome-is true c) ∙ raise-is p
 
-  pub raise-stopped : passes (raiseCheck l row code) ≡ true → d .completed ≡ false → called (record { refusal = 0; place = 0; stop = d .stop; detail = d .detail }) (l, row) ≡ raise l row code
+  -- a raise that stops leaves the machine
+  stopped-same : (m y : Machine) (n d : ℕ) → M.stopped n d y ≡ M.limit m (M.recover code m) → y ≡ m
+  unfolding M.limit M.recover M.reached
+  stopped-same m y n d e = go (ltb (M.reached (M.recover code m) .cycles) CYCLES-END) (M.hasHandler (m .core .cells)) e
+    where
+      go : (b c : Bool) → M.stopped n d y ≡ cond b (cond c (M.completed (M.entered code m)) (M.stopped 2 code m)) (M.stopped 7 0 m) → y ≡ m
+      go true true f = let z : _≡_ {A = ℕ} 0 1 = cc in absurd (omega arith)
+      go true false f = ap M.reached f
+      go false c f = ap M.reached f
+
+  pub raise-stopped : passes (raiseCheck l row code) ≡ true → x .completed ≡ false → called (record { refusal = 0; place = 0; stop = x .stop; detail = x .detail }) (l', row) ≡ raise l row code
   unfolding raised
   raise-stopped p c =
-      ap (λ (b : Bool). raised l row (outcomeAt b (d .stop) (d .detail) (decidedAt l [] [] d))) (sym c) ∙ ap (raised l row) decided-is ∙ raise-is p
+      ap (λ (m : Machine). called (record { refusal = 0; place = 0; stop = x .stop; detail = x .detail }) (m .core .cells, row)) (stopped-same before after (x .stop) (x .detail) (outcome-is false c))
+      ∙ ap (raised l row) (outcome-is false c)
+      ∙ raise-is p
 
   -- what a raise that is done leaves fits the row
   limit-done : (m x : Machine) (o : M.Outcome) → M.completed x ≡ M.limit m o → (M.completed x ≡ o) × (x .cycles < CYCLES-END)
@@ -114,12 +120,10 @@ module _ (l row : List ℤ) (code : ℕ) (d : Decision) (few : cellCount l ≤ 1
       go true f = ap (λ (y : M.Outcome). M.reached y .console) f
       go false f = let z : _≡_ {A = ℕ} 0 1 = cc in absurd (omega arith)
 
-  pub raise-fits : d .completed ≡ true → (d .m .cycles < CYCLES-END) × (consoleOf (d .m .k) [] (decidedAt l [] [] d .console .output) ≡ quietMachine l row .console)
-  unfolding M.reached
+  pub raise-fits : x .completed ≡ true → (x .m .cycles < CYCLES-END) × (after .console ≡ before .console)
   raise-fits c =
-      let e : M.completed (decidedAt l [] [] d) ≡ M.limit (quietMachine l row) (M.recover code (quietMachine l row)) = ap (λ (b : Bool). outcomeAt b (d .stop) (d .detail) (decidedAt l [] [] d)) (sym c) ∙ decided-is in
-      let p = limit-done (quietMachine l row) (decidedAt l [] [] d) (M.recover code (quietMachine l row)) e in
-      (p .1, recover-done (quietMachine l row) (decidedAt l [] [] d) (p .0))
+      let p = limit-done before after (M.recover code before) (outcome-is true c) in
+      (p .1, recover-done before after (p .0))
 
 pub raise-refused : (l row : List ℤ) (code : ℕ) → passes (raiseCheck l row code) ≡ false → called (record { refusal = raiseCheck l row code .refusal; place = raiseCheck l row code .place; stop = 0; detail = 0 }) (l, row) ≡ raise l row code
 unfolding raise

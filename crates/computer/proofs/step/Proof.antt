@@ -1,50 +1,55 @@
 use mathlib.Core.Path.{_≡_, refl, sym, ap, _∙_, subst}
-use mathlib.Core.Bool.{true, false}
+use mathlib.Core.Bool.{Bool, true, false, true≢false}
 use mathlib.Core.Logic.{⊎-elim}
-use Prim.Native.Nat.{_<_}
+use Prim.Native.Nat.{_+_}
 use native.Mathlib.Omega.{arith}
 use lib.ListN.{length}
 use Rattle.definition.specs.Runtime as M
-use Rattle.registers.specs.declared.Put.{Put}
+use Rattle.stores.specs.declared.Made.{Made}
+use Rattle.stores.specs.Meaning.{unwritten}
 use Rattle.runtime.specs.declared.arrive.Performed.{Performed}
-use Rattle.runtime.specs.Meaning.{machineAt, concluded, kept, keptMade}
+use Rattle.runtime.specs.Meaning.{machineAt, performed, executedAt, Serves}
 use Rattle.runtime.proofs.Served.{serves-made}
-use Rattle.computer.proofs.Laws.{turn-ok, turn-err, full-step, served-on, quiet-step, quiet-unwritten, finished-step, no-byte}
+use Rattle.computer.proofs.Laws.{requested, served-ok, served-none, full-step, settled-step, quiet-step, quiet-unwritten}
 use borrow.Author.Needs.{needs}
 use Rattle.computer.proofs.step.Statement.{statement}
 use Rattle.computer.proofs.step.Tie as tie
-use Rattle.computer.proofs.step.Reads as reads
-use Rattle.computer.proofs.step.Lts as lts
-use Rattle.computer.proofs.completes.Reads as completes-reads
-use Rattle.computer.proofs.finish.Reads as finish-reads
-use Rattle.computer.proofs.is_quiet.Reads as is-quiet-reads
-use Rattle.computer.proofs.output_full.Reads as output-full-reads
-use Rattle.instructions.proofs.execute.Reads as execute-reads
-use Rattle.instructions.proofs.is_asker.Reads as is-asker-reads
-use Rattle.registers.proofs.refuse.Reads as refuse-reads
-use Rattle.runtime.proofs.entry.write_over.Reads as write-over-reads
-use Rattle.runtime.proofs.fetch.fetch.Reads as fetch-reads
-use Rattle.runtime.proofs.perform.ask.Reads as ask-reads
-use Rattle.runtime.proofs.perform.keep.Reads as keep-reads
-use Rattle.runtime.proofs.perform.keep_made.Reads as keep-made-reads
 
 fetch-requires : tie.Need-fetch-requires
-fetch-requires c κs = let p = c .before .before .before .before .before .pre in (p .0 .core-in .high, p .0 .core-in .cellsS)
+fetch-requires c κs = search needs
+
+abbrev from-fetch : tie.After-fetch → tie.Start
+from-fetch c = c .before .before .before .before .before .before
 
 add-n : tie.Need-add-n
-add-n c = let h = c .before .before .before .before .before .before .before .before .before .before .pre .0 .cycles-in in let k = c .before .before .before .before .fetch .ensures .cheap in omega arith
+add-n c =
+    let at-fetch = c .before .before .before .before in
+    let start = from-fetch at-fetch in
+    let h = start .pre .0 .cycles-in in let k = at-fetch .fetch .ensures .cheap in omega arith
 
 refuse-requires : tie.Need-refuse-requires
 refuse-requires c κs = search needs
 
-keep-requires : tie.Need-keep-requires
-keep-requires c κs = search needs
+with-none-requires : tie.Need-with-none-requires
+with-none-requires c κs = search needs
+
+performed-requires : tie.Need-performed-requires
+performed-requires c κs = search needs
 
 is-asker-requires : tie.Need-is-asker-requires
 is-asker-requires c κs = search needs
 
+abbrev from-is-asker : tie.After-is-asker → tie.Then1
+from-is-asker c = c .before .before .before
+
+abbrev from-then1 : tie.Then1 → tie.After-fetch
+from-then1 c = c .before .before .before .before .before .before .before .before
+
 ask-requires : tie.Need-ask-requires
-ask-requires c κs = let p = c .before .before .before .before .before .before .before .before .before .before .before .before .before .before .before .before .before .before .pre .0 in let h = p .console-in .written-in in let k = p .console-in .small in ((p .core-in .high, (p .console-in .start-in, omega arith)), sym (c .before .before .is-asker .ensures) ∙ c .before .if2 .taken)
+ask-requires c κs =
+    let at-is-asker = c .before .before in
+    let start = from-fetch (from-then1 (from-is-asker at-is-asker)) in
+    let p = start .pre .0 in let h = p .console-in .written-in in let k = p .console-in .small in ((p .core-in .high, (p .console-in .start-in, omega arith)), sym (at-is-asker .is-asker .ensures) ∙ c .before .if2 .taken)
 
 output-full-requires : tie.Need-output-full-requires
 output-full-requires c κs = search needs
@@ -53,11 +58,20 @@ same-length : tie.Need-same-length
 same-length c = search needs
 
 returns : tie.Need-returns
-returns c = let a = c .before .before .before .before .before .before .before .before .before .before .before .before .before .before .before .before .before .before .before .before .before .args in let p = c .before .before .before .before .before .before .before .before .before .before .before .before .before .before .before .before .before .before .before .before .before .pre in let l = a .cells .now in let q = a .queue .now in let o = a .output .now in let m = a .m in let f = c .before .before .before .before .before .before .before .before .before .before .before .before .before .before .before .fetch in
-    rw (c .output-full .ensures) (full-step l q o m (f .result .i .cost) (c .before .before .ask .result) (p .0 .cycles-in) (c .before .if3 .taken) (turn-ok l (m .s) (f .result) (f .ensures) q o (m .cycles) (m .k) (c .before .before .ask .result) (c .before .before .before .before .before .before .before .before .if1 .taken) (c .before .before .ask .ensures)))
+returns c =
+    let at-ask = c .before .before in
+    let then1 = from-is-asker (at-ask .before .before .before) in
+    let at-fetch = from-then1 then1 in
+    let start = from-fetch at-fetch in
+    let a = start .args in let l = a .cells .now in let q = a .queue .now in let o = a .output .now in let m = a .m in let f = at-fetch .fetch in
+    rw (c .output-full .ensures) (full-step l q o m (f .result) (f .ensures) (at-ask .ask .result) (served-ok l q (length o) (m .k) (f .result) (then1 .if1 .taken) _ (at-ask .ask .ensures)) (start .pre .0 .cycles-in) (c .before .if3 .taken))
 
 execute-requires : tie.Need-execute-requires
-execute-requires c κs = (c .before .before .before .before .before .before .before .before .before .before .before .before .before .before .before .before .before .before .pre .0 .core-in .high, (sym (c .before .before .is-asker .ensures) ∙ c .before .if2 .left, c .before .before .before .before .before .before .before .before .before .before .before .before .fetch .ensures .known))
+execute-requires c κs =
+    let at-is-asker = c .before .before in
+    let at-fetch = from-then1 (from-is-asker at-is-asker) in
+    let start = from-fetch at-fetch in
+    (start .pre .0 .core-in .high, (sym (at-is-asker .is-asker .ensures) ∙ c .before .if2 .left, at-fetch .fetch .ensures .known))
 
 is-quiet-requires : tie.Need-is-quiet-requires
 is-quiet-requires c κs = search needs
@@ -68,15 +82,35 @@ completes-requires c κs = search needs
 same-length-2 : tie.Need-same-length-2
 same-length-2 c = search needs
 
+abbrev from-then4 : tie.Then4 → tie.After-execute
+from-then4 c = c .before .before .before
+
+abbrev from-execute : tie.After-execute → tie.After-is-asker
+from-execute c = c .before .before .before
+
 returns-2 : tie.Need-returns-2
-returns-2 c = let a = c .before .before .before .before .before .before .before .before .before .before .before .before .before .before .before .before .before .before .before .before .before .before .before .before .before .before .before .args in let p = c .before .before .before .before .before .before .before .before .before .before .before .before .before .before .before .before .before .before .before .before .before .before .before .before .before .before .before .pre in let l = a .cells .now in let q = a .queue .now in let o = a .output .now in let m = a .m in let f = c .before .before .before .before .before .before .before .before .before .before .before .before .before .before .before .before .before .before .before .before .before .fetch in let d = c .before .before .before .before .before .before .before .before .execute in let e = c .before .before .before .if5 .taken in let few = p .0 .core-in .high in
-    rw (c .completes .ensures) (quiet-unwritten l q o m (f .result .i .cost) (d .result) (omega arith) (c .before .before .before .before .before .if4 .taken) (sym (c .before .before .is-quiet .ensures) ∙ c .before .if6 .taken) (turn-ok l (m .s) (f .result) (f .ensures) q o (m .cycles) (m .k) (record { full = false; e = keptMade (d .result) (m .k) }) (c .before .before .before .before .before .before .before .before .before .before .before .before .before .before .if1 .taken) (serves-made l q (length o) (f .result .s) (m .k) (f .result .i) (d .result) (d .ensures))))
+returns-2 c =
+    let at-is-quiet = c .before .before in
+    let then5 = at-is-quiet .before in
+    let then4 = then5 .before .before in
+    let at-execute = from-then4 then4 in
+    let then1 = from-is-asker (from-execute at-execute) in
+    let at-fetch = from-then1 then1 in
+    let start = from-fetch at-fetch in
+    let a = start .args in let l = a .cells .now in let q = a .queue .now in let o = a .output .now in let m = a .m in let f = at-fetch .fetch in
+    let d = at-execute .execute in let e = then5 .if5 .taken in let few = start .pre .0 .core-in .high in
+    rw (c .completes .ensures) (quiet-unwritten l q o m (f .result) (f .ensures) (d .result) (omega arith) (served-ok l q (length o) (m .k) (f .result) (then1 .if1 .taken) _ (serves-made l q (length o) (m .k) (f .result .i .cost) _ (d .result) (d .ensures))) (then4 .if4 .taken) (sym (at-is-quiet .is-quiet .ensures) ∙ c .before .if6 .taken))
 
 is-quiet-requires-2 : tie.Need-is-quiet-requires-2
 is-quiet-requires-2 c κs = search needs
 
-write-over-requires : tie.Need-write-over-requires
-write-over-requires c κs = search needs
+abbrev from-is-quiet2 : tie.After-is-quiet2 → tie.Then4
+from-is-quiet2 c = c .before .before .before
+
+write-requires : tie.Need-write-requires
+write-requires c κs =
+    let start = from-fetch (from-then1 (from-is-asker (from-execute (from-then4 (from-is-quiet2 (c .before .before .before)))))) in
+    (start .pre .0 .core-in .low, λ t. absurd (true≢false (sym t)))
 
 completes-requires-2 : tie.Need-completes-requires-2
 completes-requires-2 c κs = search needs
@@ -84,29 +118,74 @@ completes-requires-2 c κs = search needs
 same-length-3 : tie.Need-same-length-3
 same-length-3 c = search needs
 
-returns-3 : tie.Need-returns-3
-returns-3 c = let a = c .before .before .before .before .before .before .before .before .before .before .before .before .before .before .before .before .before .before .before .before .before .before .before .before .before .before .before .before .before .before .before .args in let p = c .before .before .before .before .before .before .before .before .before .before .before .before .before .before .before .before .before .before .before .before .before .before .before .before .before .before .before .before .before .before .before .pre in let l = a .cells .now in let q = a .queue .now in let o = a .output .now in let m = a .m in let f = c .before .before .before .before .before .before .before .before .before .before .before .before .before .before .before .before .before .before .before .before .before .before .before .before .before .fetch in let d = c .before .before .before .before .before .before .before .before .before .before .before .before .execute in
-    rw (c .completes2 .ensures, c .before .before .write-over .ensures) (quiet-step l q o m (f .result .i .cost) (d .result) (c .before .before .before .before .before .before .before .before .before .if4 .taken) (sym (c .before .before .before .before .before .before .is-quiet2 .ensures) ∙ c .before .before .before .before .before .if7 .taken) (turn-ok l (m .s) (f .result) (f .ensures) q o (m .cycles) (m .k) (record { full = false; e = keptMade (d .result) (m .k) }) (c .before .before .before .before .before .before .before .before .before .before .before .before .before .before .before .before .before .before .if1 .taken) (serves-made l q (length o) (f .result .s) (m .k) (f .result .i) (d .result) (d .ensures))))
-
-keep-made-requires : tie.Need-keep-made-requires
-keep-made-requires c κs = search needs
-
-finish-requires : tie.Need-finish-requires
-finish-requires c κs = let a = c .before .before .before .before .before .before .before .before .before .before .before .before .before .before .before .args in let p = c .before .before .before .before .before .before .before .before .before .before .before .before .before .before .before .pre in let l = a .cells .now in let q = a .queue .now in let o = a .output .now in let m = a .m in let f = c .before .before .before .before .before .before .before .before .before .fetch in let j = c .before .before .if1 in
-    ((p .0 .core-in .low, p .0 .core-in .high), ((p .0 .cycles-in, f .ensures .cheap), ⊎-elim (λ w. let k = w .6 in subst (λ (e : Performed). e .sends ≡ true → e .to < length o) (sym (w .9)) (k .ensures .room (w .7 .left))) (λ v. ⊎-elim (λ w. no-byte (j .e) (w .11 ∙ w .10 .ensures) refl) (λ w. no-byte (j .e) (w .1 ∙ c .before .before .before .keep .ensures) refl) v) (j .came)))
-
 same-length-4 : tie.Need-same-length-4
 same-length-4 c = search needs
+
+returns-3 : tie.Need-returns-3
+returns-3 c =
+    let at-write = c .before .before .before .before in
+    let then7 = at-write .before .before .before in
+    let at-is-quiet2 = then7 .before in
+    let then4 = from-is-quiet2 at-is-quiet2 in
+    let at-execute = from-then4 then4 in
+    let then1 = from-is-asker (from-execute at-execute) in
+    let at-fetch = from-then1 then1 in
+    let start = from-fetch at-fetch in
+    let a = start .args in let l = a .cells .now in let q = a .queue .now in let o = a .output .now in let m = a .m in let f = at-fetch .fetch in
+    let d = at-execute .execute in let w = at-write .write .ensures in
+    rw (c .completes2 .ensures) ((λ i. M.completed (machineAt (w .0 i) q (w .1 i) (record { s = d .result .p .s; cycles = m .cycles + f .result .i .cost; k = m .k }))) ∙ quiet-step l q o m (f .result) (f .ensures) (d .result) (served-ok l q (length o) (m .k) (f .result) (then1 .if1 .taken) _ (serves-made l q (length o) (m .k) (f .result .i .cost) _ (d .result) (d .ensures))) (then4 .if4 .taken) (sym (at-is-quiet2 .is-quiet2 .ensures) ∙ then7 .if7 .taken))
+
+performed-requires-2 : tie.Need-performed-requires-2
+performed-requires-2 c κs = search needs
+
+abbrev from-joined1 : tie.Joined1 → tie.After-fetch
+from-joined1 c = c .before .before .before .before .before .before .before .before
+
+conclude-requires : tie.Need-conclude-requires
+conclude-requires c κs =
+    let at-fetch = from-joined1 c in
+    let start = from-fetch at-fetch in
+    let h = start .pre .0 .cycles-in in let k = at-fetch .fetch .ensures .cheap in omega arith
+
+-- where the three ways meet: the fetch, the start, and what e is
+abbrev fetched : tie.Joined1 → tie.After-fetch
+fetched c = c .before .before .before .before .before .before .before .before
+
+abbrev started : tie.After-fetch → tie.Start
+started c = c .before .before .before .before .before .before
+
+joined-serves : (c : tie.Joined1) → Serves (started (fetched c) .args .cells .now) (started (fetched c) .args .queue .now) (length (started (fetched c) .args .output .now)) (started (fetched c) .args .m .k) (fetched c .fetch .result .i .cost) (requested (started (fetched c) .args .cells .now) (fetched c .fetch .result)) (record { full = false; e = c .if1 .e })
+joined-serves c =
+    let a = started (fetched c) .args in let l = a .cells .now in let q = a .queue .now in let n = length (a .output .now) in let k = a .m .k in let f = fetched c .fetch .result in
+    let at-e : Performed → Type 0 = λ e. Serves l q n k (f .i .cost) (requested l f) (record { full = false; e = e }) in
+    ⊎-elim (λ w. subst at-e (sym (w .9)) (served-ok l q n k f (w .0 .taken) _ (subst (λ (b : Bool). Serves l q n k (f .i .cost) (executedAt l (f .s) (f .i)) (record { full = b; e = w .6 .result .e })) (w .7 .left) (w .6 .ensures))))
+    (λ v. ⊎-elim (λ w. subst at-e (sym (w .11 ∙ w .10 .ensures)) (served-ok l q n k f (w .0 .taken) _ (serves-made l q n k (f .i .cost) _ (w .6 .result) (w .6 .ensures))))
+    (λ w. subst at-e (sym (w .1 ∙ c .before .performed .ensures ∙ ap (λ (d : Made). performed d k) (c .before .before .with-none .ensures ∙ ap unwritten (c .before .before .before .refuse .ensures)))) (served-none l q n k f (started (fetched c) .pre .0 .core-in .high) (w .0 .left))) v) (c .if1 .came)
+
+settle-requires : tie.Need-settle-requires
+settle-requires c κs =
+    let at-conclude = c .before .before in
+    let joined1 = at-conclude .before in
+    let at-fetch = from-joined1 joined1 in
+    let start = from-fetch at-fetch in
+    let joined = joined1 in let p = start .pre .0 in let d = at-conclude .conclude .ensures in let h = p .cycles-in in let cheap = at-fetch .fetch .ensures .cheap in let soon = d .soon in
+    ((p .core-in .low, p .core-in .high), (omega arith, d .room _ (joined-serves joined .room refl)))
 
 same-length-5 : tie.Need-same-length-5
 same-length-5 c = search needs
 
+same-length-6 : tie.Need-same-length-6
+same-length-6 c = search needs
+
 returns-4 : tie.Need-returns-4
-returns-4 c = let a = c .before .before .before .before .before .before .before .before .before .before .before .before .before .before .before .before .before .before .before .args in let p = c .before .before .before .before .before .before .before .before .before .before .before .before .before .before .before .before .before .before .before .pre in let l = a .cells .now in let q = a .queue .now in let o = a .output .now in let m = a .m in let f = c .before .before .before .before .before .before .before .before .before .before .before .before .before .fetch in let j = c .before .before .before .before .before .before .if1 in let to : Performed → M.Turn = λ e. concluded l q o e (f .result .i .cost) (m .cycles) in
-    c .before .before .before .finish .ensures q ∙ finished-step l q o m (a .saved) (f .result .i .cost) (j .e) (f .ensures .cheap) (p .1)
-    (⊎-elim (λ w. let k = w .6 in ap to (w .9) ∙ served-on l q o m (f .result .i .cost) (k .result) (w .7 .left) (turn-ok l (m .s) (f .result) (f .ensures) q o (m .cycles) (m .k) (k .result) (w .0 .taken) (k .ensures)))
-    (λ v. ⊎-elim (λ w. let d = w .6 in ap to (w .11 ∙ w .10 .ensures) ∙ (turn-ok l (m .s) (f .result) (f .ensures) q o (m .cycles) (m .k) (record { full = false; e = keptMade (d .result) (m .k) }) (w .0 .taken) (serves-made l q (length o) (f .result .s) (m .k) (f .result .i) (d .result) (d .ensures))))
-    (λ w. ap to (w .1 ∙ c .before .before .before .before .before .before .before .keep .ensures ∙ ap (λ (x : Put). kept x (m .k)) (c .before .before .before .before .before .before .before .before .refuse .ensures)) ∙ turn-err l (m .s) (f .result) (f .ensures) (p .0 .core-in .high) q o (m .cycles) (m .k) (w .0 .left)) v) (j .came))
+returns-4 c =
+    let at-settle = c .before .before .before in
+    let at-conclude = at-settle .before .before .before in
+    let joined1 = at-conclude .before in
+    let at-fetch = from-joined1 joined1 in
+    let start = from-fetch at-fetch in
+    let joined = joined1 in let a = start .args in let l = a .cells .now in let q = a .queue .now in let o = a .output .now in let m = a .m in let f = at-fetch .fetch in
+    at-settle .settle .ensures q ∙ settled-step l q o m (f .result) (f .ensures) (a .saved) (start .pre .1) (joined .if1 .e) (joined-serves joined) (at-conclude .conclude .result) (at-conclude .conclude .ensures)
 
 pub step-spec : {M : Type 1} → statement M
 step-spec =
@@ -115,7 +194,8 @@ step-spec =
     fetch-requires
     add-n
     refuse-requires
-    keep-requires
+    with-none-requires
+    performed-requires
     is-asker-requires
     ask-requires
     output-full-requires
@@ -127,12 +207,14 @@ step-spec =
     same-length-2
     returns-2
     is-quiet-requires-2
-    write-over-requires
+    write-requires
     completes-requires-2
     same-length-3
-    returns-3
-    keep-made-requires
-    finish-requires
     same-length-4
+    returns-3
+    performed-requires-2
+    conclude-requires
+    settle-requires
     same-length-5
+    same-length-6
     returns-4)

@@ -18,7 +18,9 @@ console-state-requires : tie.Need-console-state-requires
 console-state-requires c κs = search needs
 
 returns : tie.Need-returns
-returns c = rw (c .before .before .registers .ensures, c .before .number-at .ensures, c .console-state .ensures)
+returns c =
+    let at-registers = c .before .before in
+    rw (at-registers .registers .ensures, c .before .number-at .ensures, c .console-state .ensures)
 
 pub state-spec : {M : Type 1} → statement M
 state-spec =

@@ -4,7 +4,7 @@ use Rattle.runtime.proofs.commit.save_entry.Statement.{statement}
 use Rattle.runtime.proofs.commit.save_entry.Tie as tie
 use Rattle.runtime.proofs.commit.save_entry.Reads as reads
 use Rattle.runtime.proofs.commit.save_entry.Lts as lts
-use Rattle.runtime.proofs.entry.save.Reads as save-reads
+use Rattle.runtime.proofs.commit.save.Reads as save-reads
 
 save-requires : tie.Need-save-requires
 save-requires c κs = search needs

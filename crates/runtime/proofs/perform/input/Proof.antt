@@ -8,7 +8,7 @@ use Rattle.definition.specs.Instructions.{nothing, reads}
 use Rattle.registers.specs.declared.Put.{Put}
 use Rattle.registers.specs.Meaning.{answer, putRes, settled, result}
 use Rattle.registers.proofs.Laws.{settled-is}
-use Rattle.runtime.proofs.Served.{serves-kept, serves-input, is-in}
+use Rattle.runtime.proofs.Served.{serves-unwritten, serves-input, is-in}
 use mathlib.Core.Bool.{Bool}
 use lib.IntN.{pos}
 use borrow.Author.Needs.{needs}
@@ -22,7 +22,7 @@ use Rattle.memory.proofs.address_cell.Reads as address-cell-reads
 use Rattle.registers.proofs.put_reg.Reads as put-reg-reads
 use Rattle.registers.proofs.refuse.Reads as refuse-reads
 use Rattle.runtime.proofs.perform.done.Reads as done-reads
-use Rattle.runtime.proofs.perform.keep.Reads as keep-reads
+use Rattle.stores.proofs.with_none.Reads as with-none-reads
 
 in-request-requires : tie.Need-in-request-requires
 in-request-requires c κs = search needs
@@ -39,31 +39,47 @@ address-cell-requires c κs = search needs
 put-reg-requires : tie.Need-put-reg-requires
 put-reg-requires c κs = search needs
 
-keep-requires : tie.Need-keep-requires
-keep-requires c κs = search needs
+with-none-requires : tie.Need-with-none-requires
+with-none-requires c κs = search needs
 
 done-requires : tie.Need-done-requires
 done-requires c κs = search needs
 
+abbrev from-in-request : tie.After-in-request → tie.Start
+from-in-request c = c .before .before .before .before
+
 returns : tie.Need-returns
-returns c = λ size. let a = c .before .before .before .before .before .before .before .before .before .before .before .before .before .args in let l = a .cells .now in let q = c .before .before .before .before .before .before .before .before .before .in-request .result in let v = c .before .before .before .before .before .before .read-port .result in
-    let e = ap (λ (b : Bool). result (reads (q .port) (regAt (a .i .y .reg))) b (q .error) (core l (q .s))) (sym (c .before .before .before .before .before .before .before .if1 .taken)) ∙ c .before .before .before .before .before .before .before .before .before .in-request .ensures l ∙ is-in l (a .s) (a .i) (c .before .before .before .before .before .before .before .before .before .before .before .before .before .pre .1) in
-    let g = ap (putRes l) (c .before .before .put-reg .ensures) ∙ settled-is (q .s) l (putReg (regAt (a .i .y .reg)) (c .before .before .before .address-cell .result) (q .s)) in
-    rw (c .done .ensures, c .before .keep .ensures) (serves-input l (a .queue .now) size (a .s) (a .k) (a .i) (c .before .before .before .before .before .before .before .before .before .before .before .before .before .pre .0 .0) (q .s) (q .port) (v .value) (regAt (a .i .y .reg)) (v .k) (c .before .before .put-reg .result) e (c .before .before .before .before .before .before .read-port .ensures) (rw (c .before .before .before .address-cell .ensures) at g))
+returns c =
+    let at-put-reg = c .before .before in
+    let at-address-cell = at-put-reg .before in
+    let at-read-port = at-address-cell .before .before .before in
+    let then1 = at-read-port .before in
+    let at-in-request = then1 .before .before in
+    let start = from-in-request at-in-request in
+    λ size. let a = start .args in let l = a .cells .now in let q = at-in-request .in-request .result in
+    let e = ap (λ (b : Bool). result (reads (q .port) (regAt (a .i .y .reg))) b (q .error) (core l (q .s))) (sym (then1 .if1 .taken)) ∙ at-in-request .in-request .ensures l ∙ is-in l (a .s) (a .i) (start .pre .1) in
+    let v = at-read-port .read-port .result in
+    let g = ap (putRes l) (at-put-reg .put-reg .ensures) ∙ settled-is (q .s) l (putReg (regAt (a .i .y .reg)) (at-address-cell .address-cell .result) (q .s)) in
+    rw (c .done .ensures, c .before .with-none .ensures) (serves-input l (a .queue .now) size (a .k) (a .i .cost) _ (start .pre .0 .0) (q .s) (q .port) (v .value) (regAt (a .i .y .reg)) (v .k) (at-put-reg .put-reg .result) e (at-read-port .read-port .ensures) (rw (at-address-cell .address-cell .ensures) at g))
 
 refuse-requires : tie.Need-refuse-requires
 refuse-requires c κs = search needs
 
-keep-requires-2 : tie.Need-keep-requires-2
-keep-requires-2 c κs = search needs
+with-none-requires-2 : tie.Need-with-none-requires-2
+with-none-requires-2 c κs = search needs
 
 done-requires-2 : tie.Need-done-requires-2
 done-requires-2 c κs = search needs
 
 returns-2 : tie.Need-returns-2
-returns-2 c = λ size. let a = c .before .before .before .before .before .before .before .before .before .args in let l = a .cells .now in let q = c .before .before .before .before .before .in-request .result in
-    let e = ap (λ (b : Bool). result (reads (q .port) (regAt (a .i .y .reg))) b (q .error) (core l (q .s))) (sym (c .before .before .before .if1 .left)) ∙ c .before .before .before .before .before .in-request .ensures l ∙ is-in l (a .s) (a .i) (c .before .before .before .before .before .before .before .before .before .pre .1) in
-    rw (c .done2 .ensures, c .before .keep2 .ensures) (serves-kept l (a .queue .now) size (a .s) (a .k) (a .i) (c .before .before .before .before .before .before .before .before .before .pre .0 .0) (c .before .before .refuse .result) (ap (answer nothing l) (c .before .before .refuse .ensures) ∙ e))
+returns-2 c =
+    let at-refuse = c .before .before in
+    let else1 = at-refuse .before in
+    let at-in-request = else1 .before .before in
+    let start = from-in-request at-in-request in
+    λ size. let a = start .args in let l = a .cells .now in let q = at-in-request .in-request .result in
+    let e = ap (λ (b : Bool). result (reads (q .port) (regAt (a .i .y .reg))) b (q .error) (core l (q .s))) (sym (else1 .if1 .left)) ∙ at-in-request .in-request .ensures l ∙ is-in l (a .s) (a .i) (start .pre .1) in
+    rw (c .done2 .ensures, c .before .with-none2 .ensures) (serves-unwritten l (a .queue .now) size (a .k) (a .i .cost) _ (start .pre .0 .0) (at-refuse .refuse .result) (ap (answer nothing l) (at-refuse .refuse .ensures) ∙ e))
 
 pub input-spec : {M : Type 1} → statement M
 input-spec =
@@ -74,10 +90,10 @@ input-spec =
     cast-address-cell
     address-cell-requires
     put-reg-requires
-    keep-requires
+    with-none-requires
     done-requires
     returns
     refuse-requires
-    keep-requires-2
+    with-none-requires-2
     done-requires-2
     returns-2)

@@ -5,7 +5,7 @@ use Rattle.definition.specs.Exec.{ok, err, core}
 use Rattle.definition.specs.Instructions.{nothing, writes}
 use Rattle.registers.specs.Meaning.{answer, result}
 use Rattle.word.proofs.Laws.{back}
-use Rattle.runtime.proofs.Served.{serves-kept, serves-full, serves-sent, is-out}
+use Rattle.runtime.proofs.Served.{serves-unwritten, serves-full, serves-sent, is-out}
 use borrow.Author.Needs.{needs}
 use Rattle.runtime.proofs.perform.output.Statement.{statement}
 use Rattle.runtime.proofs.perform.output.Tie as tie
@@ -17,71 +17,93 @@ use Rattle.instructions.proofs.out_request.Reads as out-request-reads
 use Rattle.registers.proofs.accept.Reads as accept-reads
 use Rattle.registers.proofs.refuse.Reads as refuse-reads
 use Rattle.runtime.proofs.perform.done.Reads as done-reads
-use Rattle.runtime.proofs.perform.keep.Reads as keep-reads
+use Rattle.stores.proofs.with_none.Reads as with-none-reads
 
 out-request-requires : tie.Need-out-request-requires
 out-request-requires c κs = search needs
 
-output-full-requires : tie.Need-output-full-requires
-output-full-requires c κs = search needs
-
 accept-requires : tie.Need-accept-requires
 accept-requires c κs = search needs
 
-keep-requires : tie.Need-keep-requires
-keep-requires c κs = search needs
+with-none-requires : tie.Need-with-none-requires
+with-none-requires c κs = search needs
 
-returns : tie.Need-returns
-returns c = let a = c .before .before .before .before .before .before .before .before .before .before .args in let l = a .cells .now in let q = c .before .before .before .before .before .before .out-request .result in
-    let e = ap (λ (b : Bool). result (writes (q .port) (q .w)) b (q .error) (core l (q .s))) (sym (c .before .before .before .before .if1 .taken)) ∙ c .before .before .before .before .before .before .out-request .ensures ∙ is-out l (a .s) (a .i) (c .before .before .before .before .before .before .before .before .before .before .pre .1) in
-    serves-full l (a .queue .now) (a .size) (a .s) (a .k) (a .i) (q .s) (q .port) (q .w) (c .keep .result) e (λ y o h. sym (c .before .before .if2 .taken) ∙ c .before .before .before .output-full .ensures y o h)
-
-write-port-requires : tie.Need-write-port-requires
-write-port-requires c κs = search needs
-
-accept-requires-2 : tie.Need-accept-requires-2
-accept-requires-2 c κs = search needs
-
-keep-requires-2 : tie.Need-keep-requires-2
-keep-requires-2 c κs = search needs
+output-full-requires : tie.Need-output-full-requires
+output-full-requires c κs = search needs
 
 done-requires : tie.Need-done-requires
 done-requires c κs = search needs
 
+abbrev from-then1 : tie.Then1 → tie.After-out-request
+from-then1 c = c .before .before
+
+abbrev from-out-request : tie.After-out-request → tie.Start
+from-out-request c = c .before .before .before .before
+
+returns : tie.Need-returns
+returns c =
+    let at-output-full = c .before .before in
+    let then1 = at-output-full .before .before .before in
+    let at-out-request = from-then1 then1 in
+    let start = from-out-request at-out-request in
+    let a = start .args in let l = a .cells .now in let q = at-out-request .out-request .result in
+    let e = ap (λ (b : Bool). result (writes (q .port) (q .w)) b (q .error) (core l (q .s))) (sym (then1 .if1 .taken)) ∙ at-out-request .out-request .ensures ∙ is-out l (a .s) (a .i) (start .pre .1) in
+    serves-full l (a .queue .now) (a .size) (a .k) (a .i .cost) _ (q .s) (q .port) (q .w) (c .done .result .e) e (λ y o h. sym (c .before .if2 .taken) ∙ at-output-full .output-full .ensures y o h)
+
+abbrev from-struct-told : tie.After-struct-told → tie.Else2
+from-struct-told c = c .before .before
+
+write-port-requires : tie.Need-write-port-requires
+write-port-requires c κs =
+    let start = from-out-request (from-then1 ((from-struct-told c) .before .before .before .before)) in
+    start .pre .0 .1
+
 returns-2 : tie.Need-returns-2
-returns-2 c = let a = c .before .before .before .before .before .before .before .before .before .before .before .before .before .before .args in let l = a .cells .now in let q = c .before .before .before .before .before .before .before .before .before .before .out-request .result in
-    let e = ap (λ (b : Bool). result (writes (q .port) (q .w)) b (q .error) (core l (q .s))) (sym (c .before .before .before .before .before .before .before .before .if1 .taken)) ∙ c .before .before .before .before .before .before .before .before .before .before .out-request .ensures ∙ is-out l (a .s) (a .i) (c .before .before .before .before .before .before .before .before .before .before .before .before .before .before .pre .1) in
-    rw (c .done .ensures, c .before .keep2 .ensures, c .before .before .accept2 .ensures) (serves-sent l (a .queue .now) (a .size) (a .s) (a .k) (a .i) (c .before .before .before .before .before .before .before .before .before .before .before .before .before .before .pre .0 .0) (q .s) (q .port) (q .w) (c .before .before .before .before .write-port .result) _ e (λ y o h. sym (c .before .before .before .before .before .before .if2 .left) ∙ c .before .before .before .before .before .before .before .output-full .ensures y o h) (rw (back (q .w) (c .before .before .before .before .before .struct-told .given .1 .1 .1 .0 .1)) at (c .before .before .before .before .write-port .ensures)))
+returns-2 c =
+    let at-struct-told = c .before .before in
+    let else2 = from-struct-told at-struct-told in
+    let at-output-full = else2 .before in
+    let at-with-none = at-output-full .before in
+    let at-accept = at-with-none .before in
+    let then1 = at-accept .before in
+    let at-out-request = from-then1 then1 in
+    let start = from-out-request at-out-request in
+    let a = start .args in let l = a .cells .now in let q = at-out-request .out-request .result in
+    let e = ap (λ (b : Bool). result (writes (q .port) (q .w)) b (q .error) (core l (q .s))) (sym (then1 .if1 .taken)) ∙ at-out-request .out-request .ensures ∙ is-out l (a .s) (a .i) (start .pre .1) in
+    rw (at-with-none .with-none .ensures, at-accept .accept .ensures) (serves-sent l (a .queue .now) (a .size) (a .k) (a .i .cost) _ (start .pre .0 .0) (q .s) (q .port) (q .w) (c .before .write-port .result) _ e (λ y o h. sym (else2 .if2 .left) ∙ at-output-full .output-full .ensures y o h) (rw (back (q .w) (at-struct-told .struct-told .given .1 .1 .1 .0 .1)) at (c .before .write-port .ensures)))
 
 refuse-requires : tie.Need-refuse-requires
 refuse-requires c κs = search needs
 
-keep-requires-3 : tie.Need-keep-requires-3
-keep-requires-3 c κs = search needs
+with-none-requires-2 : tie.Need-with-none-requires-2
+with-none-requires-2 c κs = search needs
 
 done-requires-2 : tie.Need-done-requires-2
 done-requires-2 c κs = search needs
 
 returns-3 : tie.Need-returns-3
-returns-3 c = let a = c .before .before .before .before .before .before .before .before .before .args in let l = a .cells .now in let q = c .before .before .before .before .before .out-request .result in
-    let e = ap (λ (b : Bool). result (writes (q .port) (q .w)) b (q .error) (core l (q .s))) (sym (c .before .before .before .if1 .left)) ∙ c .before .before .before .before .before .out-request .ensures ∙ is-out l (a .s) (a .i) (c .before .before .before .before .before .before .before .before .before .pre .1) in
-    rw (c .done2 .ensures, c .before .keep3 .ensures) (serves-kept l (a .queue .now) (a .size) (a .s) (a .k) (a .i) (c .before .before .before .before .before .before .before .before .before .pre .0 .0) (c .before .before .refuse .result) (ap (answer nothing l) (c .before .before .refuse .ensures) ∙ e))
+returns-3 c =
+    let at-refuse = c .before .before in
+    let else1 = at-refuse .before in
+    let at-out-request = else1 .before .before in
+    let start = from-out-request at-out-request in
+    let a = start .args in let l = a .cells .now in let q = at-out-request .out-request .result in
+    let e = ap (λ (b : Bool). result (writes (q .port) (q .w)) b (q .error) (core l (q .s))) (sym (else1 .if1 .left)) ∙ at-out-request .out-request .ensures ∙ is-out l (a .s) (a .i) (start .pre .1) in
+    rw (c .done2 .ensures, c .before .with-none2 .ensures) (serves-unwritten l (a .queue .now) (a .size) (a .k) (a .i .cost) _ (start .pre .0 .0) (at-refuse .refuse .result) (ap (answer nothing l) (at-refuse .refuse .ensures) ∙ e))
 
 pub output-spec : {M : Type 1} → statement M
 output-spec =
     tie.close
     (tie.spec
     out-request-requires
-    output-full-requires
     accept-requires
-    keep-requires
+    with-none-requires
+    output-full-requires
+    done-requires
     returns
     write-port-requires
-    accept-requires-2
-    keep-requires-2
-    done-requires
     returns-2
     refuse-requires
-    keep-requires-3
+    with-none-requires-2
     done-requires-2
     returns-3)

@@ -10,7 +10,9 @@ same-length : tie.Need-same-length
 same-length c = search needs
 
 returns : tie.Need-returns
-returns c = rw (toZ-ofZ (c .before .before .before .fits .w)) at (c .before .set-register .ensures)
+returns c =
+    let start = c .before .before .before in
+    rw (toZ-ofZ (start .fits .w)) at (c .before .set-register .ensures)
 
 pub z33-set-register-spec : {M : Type 1} → statement M
 z33-set-register-spec = tie.close (tie.spec set-register-requires same-length returns)

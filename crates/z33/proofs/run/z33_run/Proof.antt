@@ -26,16 +26,42 @@ use Rattle.z33.proofs.state.Reads as state-reads
 run-check-requires : tie.Need-run-check-requires
 run-check-requires c κs = search needs
 
+abbrev from-then1 : tie.Then1 → tie.After-run-check
+from-then1 c = c .before .before
+
+abbrev from-run-check : tie.After-run-check → tie.Start
+from-run-check c = c .before .before .before .before .before .before .before
+
 state-requires : tie.Need-state-requires
-state-requires c κs = let a = c .before .before .before .before .before .before .before .before .before .before .args in let p = run-passed (lent (a .cells .now) (a .queue .now) (a .output .now) (a .row .now)) (passed-by (c .before .before .before .run-check .ensures) (c .before .if1 .taken)) .row-fits in (p .long, (p .pc, p .sp))
+state-requires c κs =
+    let at-run-check = from-then1 (c .before) in
+    let start = from-run-check at-run-check in
+    let a = start .args in let p = run-passed (lent (a .cells .now) (a .queue .now) (a .output .now) (a .row .now)) (passed-by (at-run-check .run-check .ensures) (c .before .if1 .taken)) .row-fits in (p .long, (p .pc, p .sp))
+
+abbrev from-state : tie.After-state → tie.Then1
+from-state c = c .before .before
 
 run-requires : tie.Need-run-requires
-run-requires c κs = let a = c .before .before .before .before .before .before .before .before .before .before .before .before .before .before .args in rw (c .before .before .before .state .ensures) (run-accepted (a .cells .now) (a .queue .now) (a .output .now) (a .row .now) (passed-by (c .before .before .before .before .before .before .before .run-check .ensures) (c .before .before .before .before .before .if1 .taken)))
+run-requires c κs =
+    let at-state = c .before .before .before in
+    let then1 = from-state at-state in
+    let at-run-check = from-then1 then1 in
+    let start = from-run-check at-run-check in
+    let a = start .args in rw (at-state .state .ensures) (run-accepted (a .cells .now) (a .queue .now) (a .output .now) (a .row .now) (passed-by (at-run-check .run-check .ensures) (then1 .if1 .taken)))
+
+abbrev from-run : tie.After-run → tie.After-state
+from-run c = c .before .before .before .before
 
 write-row-requires : tie.Need-write-row-requires
-write-row-requires c κs = let a = c .before .before .before .before .before .before .before .before .before .before .before .before .before .before .before .before .before .before .before .before .before .before .args in let h = passed-by (c .before .before .before .before .before .before .before .before .before .before .before .before .before .before .before .run-check .ensures) (c .before .before .before .before .before .before .before .before .before .before .before .before .before .if1 .taken) in let f = rw (c .before .before .before .before .before .before .before .before .before .before .before .state .ensures) at (c .before .before .before .before .before .before .before .run .ensures) in
+write-row-requires c κs =
+    let at-run = c .before .before .before .before .before .before .before in
+    let at-state = from-run at-run in
+    let then1 = from-state at-state in
+    let at-run-check = from-then1 then1 in
+    let start = from-run-check at-run-check in
+    let a = start .args in let h = passed-by (at-run-check .run-check .ensures) (then1 .if1 .taken) in let f = rw (at-state .state .ensures) at (at-run .run .ensures) in
     let p = run-passed (lent (a .cells .now) (a .queue .now) (a .output .now) (a .row .now)) h .row-fits in
-    let x = left-accepted (a .cells .now) (a .queue .now) (a .output .now) (a .row .now) h _ _ _ (c .before .before .before .before .before .before .before .run .result) f in
+    let x = left-accepted (a .cells .now) (a .queue .now) (a .output .now) (a .row .now) h _ _ _ (at-run .run .result) f in
     let n = x .console-in in let q = n .few in let z = n .small in let s = n .start-in in let t = n .count-in in let w = n .written-in in
     (p .long, (x .cycles-in, (omega arith, (omega arith, omega arith))))
 
@@ -55,10 +81,17 @@ same-length-4 : tie.Need-same-length-4
 same-length-4 c = search needs
 
 returns : tie.Need-returns
-returns c = let a = c .before .before .before .before .before .before .before .before .before .before .before .before .before .before .before .before .before .before .before .before .before .before .before .before .before .args in let h = passed-by (c .before .before .before .before .before .before .before .before .before .before .before .before .before .before .before .before .before .before .run-check .ensures) (c .before .before .before .before .before .before .before .before .before .before .before .before .before .before .before .before .if1 .taken) in let f = rw (c .before .before .before .before .before .before .before .before .before .before .before .before .before .before .state .ensures) at (c .before .before .before .before .before .before .before .before .before .before .run .ensures) in let e = c .before .before .before .before .before .before .before .before .before .before .run .result in
+returns c =
+    let at-write-row = c .before .before in
+    let at-run = at-write-row .before .before .before .before .before .before .before .before in
+    let at-state = from-run at-run in
+    let then1 = from-state at-state in
+    let at-run-check = from-then1 then1 in
+    let start = from-run-check at-run-check in
+    let a = start .args in let h = passed-by (at-run-check .run-check .ensures) (then1 .if1 .taken) in let f = rw (at-state .state .ensures) at (at-run .run .ensures) in let e = at-run .run .result in
     let g = on-budget _ _ f (a .budget) refl in
     let counted : c .ran .result .steps ≡ e .steps = ap (λ (r : Ran). r .steps) (c .ran .ensures) in
-    rw (c .ran .ensures) (run-answer (a .cells .now) (a .queue .now) (a .output .now) (a .row .now) h (a .budget) _ _ e g _ (c .before .before .write-row .ensures))
+    rw (c .ran .ensures) (run-answer (a .cells .now) (a .queue .now) (a .output .now) (a .row .now) h (a .budget) _ _ e g _ (at-write-row .write-row .ensures))
 
 same-length-5 : tie.Need-same-length-5
 same-length-5 c = search needs
@@ -73,8 +106,11 @@ same-length-8 : tie.Need-same-length-8
 same-length-8 c = search needs
 
 returns-2 : tie.Need-returns-2
-returns-2 c = let a = c .before .before .before .before .before .before .before .before .before .args in let l = lent (a .cells .now) (a .queue .now) (a .output .now) (a .row .now) in
-    ap (λ (d : Done). called (record { refusal = d .refusal; place = d .place; stop = 0; detail = 0; steps = 0 }) l) (c .before .before .run-check .ensures) ∙ run-refused (a .budget) l (refused-by (c .before .before .run-check .ensures) (c .if1 .left))
+returns-2 c =
+    let at-run-check = c .before .before in
+    let start = from-run-check at-run-check in
+    let a = start .args in let l = lent (a .cells .now) (a .queue .now) (a .output .now) (a .row .now) in
+    ap (λ (d : Done). called (record { refusal = d .refusal; place = d .place; stop = 0; detail = 0; steps = 0 }) l) (at-run-check .run-check .ensures) ∙ run-refused (a .budget) l (refused-by (at-run-check .run-check .ensures) (c .if1 .left))
 
 pub z33-run-spec : {M : Type 1} → statement M
 z33-run-spec =

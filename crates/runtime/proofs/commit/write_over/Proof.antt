@@ -2,10 +2,10 @@ use mathlib.Core.Path.{_∙_, sym}
 use Rattle.memory.proofs.Laws.{over-in, over-none}
 use native.Mathlib.Omega.{arith}
 use borrow.Author.Needs.{needs}
-use Rattle.runtime.proofs.entry.write_over.Statement.{statement}
-use Rattle.runtime.proofs.entry.write_over.Tie as tie
-use Rattle.runtime.proofs.entry.write_over.Reads as reads
-use Rattle.runtime.proofs.entry.write_over.Lts as lts
+use Rattle.runtime.proofs.commit.write_over.Statement.{statement}
+use Rattle.runtime.proofs.commit.write_over.Tie as tie
+use Rattle.runtime.proofs.commit.write_over.Reads as reads
+use Rattle.runtime.proofs.commit.write_over.Lts as lts
 use Rattle.memory.proofs.put_cell.Reads as put-cell-reads
 
 put-cell-requires : tie.Need-put-cell-requires

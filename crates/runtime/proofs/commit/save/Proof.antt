@@ -3,10 +3,10 @@ use Rattle.word.proofs.Laws.{back}
 use mir.Facts.{toZ-ofZ}
 use Rattle.definition.specs.Runtime.{saved}
 use borrow.Author.Needs.{needs}
-use Rattle.runtime.proofs.entry.save.Statement.{statement}
-use Rattle.runtime.proofs.entry.save.Tie as tie
-use Rattle.runtime.proofs.entry.save.Reads as reads
-use Rattle.runtime.proofs.entry.save.Lts as lts
+use Rattle.runtime.proofs.commit.save.Statement.{statement}
+use Rattle.runtime.proofs.commit.save.Tie as tie
+use Rattle.runtime.proofs.commit.save.Reads as reads
+use Rattle.runtime.proofs.commit.save.Lts as lts
 use Rattle.memory.proofs.address_cell.Reads as address-cell-reads
 use Rattle.memory.proofs.put_cell.Reads as put-cell-reads
 use Rattle.memory.proofs.word_cell.Reads as word-cell-reads
