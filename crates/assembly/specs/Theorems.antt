@@ -31,3 +31,7 @@ Accepted = (room : ℕ) (t : List ℕ) (vs : List Cell) → assemble room t ≡ 
 -- Each cell made is sound.
 abbrev pub CellsSound : Type 0
 CellsSound = (room : ℕ) (t : List ℕ) (vs : List Cell) → assemble room t ≡ cells vs → allSound vs ≡ true
+
+-- It makes no more cells than there is room for.
+abbrev pub CellsFit : Type 0
+CellsFit = (room : ℕ) (t : List ℕ) (vs : List Cell) → assemble room t ≡ cells vs → length vs ≤ room
