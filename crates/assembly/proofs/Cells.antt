@@ -211,7 +211,7 @@ pub accepted : Accepted
 unfolding assemble
 accepted room t vs h = accepted-by room t (rows trees 32 room t) vs refl h
 
-other-number : (x y : Option ℕ) (ws : List Cell) (k : ℕ) → otherwise 14 x (otherwise 15 y (cells ws)) ≡ refuses 13 k → ⊥
+pub other-number : (x y : Option ℕ) (ws : List Cell) (k : ℕ) → otherwise 14 x (otherwise 15 y (cells ws)) ≡ refuses 13 k → ⊥
 unfolding otherwise
 other-number none none ws k h = apart (sym h)
 other-number none (some j) ws k h = let z : _≡_ {A = ℕ} 15 13 = cc in absurd (omega arith)
