@@ -2,12 +2,12 @@
 use mathlib.Core.Path.{_≡_, refl, sym, ap, _∙_}
 use mathlib.Core.Bool.{Bool, true, false, false≢true}
 use mathlib.Core.List.{List, [], _∷_, _++_, append-assoc, append-nil}
-use Prim.Native.Nat.{ℕ, zero, suc, _+_, _*_, _-_, _/_, _%_, _≤_, _<_}
+use Prim.Native.Nat.{ℕ, zero, suc, _+_, _*_, _-_, _%_, _≤_, _<_}
 use native.Mathlib.Omega.{arith}
 use native.Mathlib.Numerals.{add-one}
-use lib.Dec.{eqb, ltb}
+use lib.Dec.{eqb}
 use lib.IntN.{ℤ, pos}
-use lib.ListN.{length, take, drop, getD, replicate, length-replicate, length-append, length-drop, length-take}
+use lib.ListN.{length, take, drop, replicate, length-replicate, length-append, length-drop, length-take}
 use lib.Seq.{take-append-seam}
 use borrow.Author.Tests.{ne-eqb, eqb-false, le-ltb, lt-ltb}
 use Rattle.definition.specs.declared.Cell.{Cell}
@@ -19,9 +19,9 @@ use Rattle.expression.specs.Table.{isInner, nextLine}
 use Rattle.expression.proofs.Spans.{front-past, by-bool}
 use Rattle.assembly.specs.Assemble.{Assembled, cells, refuses, assemble, answered, assembleCall}
 use Rattle.assembly.proofs.Cells.{cells-fit}
-use Rattle.report.specs.Text.{decimal, field, fields, line}
+use Rattle.report.specs.Text.{field, fields, line}
 use Rattle.report.proofs.Laws.{decimal-short, numeral-short, fields-short, three-of}
-use Rattle.asm.specs.Output.{numbers, cellLine, cellLines, imageText, refusalText, refusedName, startName, linesFrom, lineAt, numberText, lineName, readName, colonName, expectedText, grammarText, labelText, valueText, messageText, noCells, outputOf, errorOf, output, errorText, tooLongText, PartRead}
+use Rattle.asm.specs.Output.{numbers, cellLine, cellLines, imageText, refusalText, refusedName, linesFrom, lineAt, numberText, expectedText, grammarText, labelText, valueText, messageText, noCells, outputOf, errorOf, output, errorText, tooLongText, PartRead}
 
 -- how long a list of one number is
 pub sized : (n z : ℕ) {l : List ℕ} → l ≡ replicate n z → n ≡ length l

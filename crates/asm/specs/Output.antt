@@ -3,7 +3,7 @@
 use mathlib.Core.Path.{_≡_}
 use mathlib.Core.Bool.{Bool, true, cond}
 use mathlib.Core.List.{List, [], _∷_, _++_}
-use Prim.Native.Nat.{ℕ, zero, suc, _+_, _*_, _-_}
+use Prim.Native.Nat.{ℕ, zero, suc, _+_, _-_}
 use lib.IntN.{ℤ, pos}
 use lib.Dec.{ltb, eqb}
 use lib.ListN.{length, take, replicate}

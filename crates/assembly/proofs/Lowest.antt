@@ -3,19 +3,19 @@ use mathlib.Core.Path.{_≡_, refl, sym, ap, _∙_}
 use mathlib.Core.Bool.{Bool, true, false}
 use mathlib.Core.List.{List, [], _∷_, _++_, append-assoc, map, reverseAux}
 use mathlib.Core.Option.{Option, some, none}
-use Prim.Native.Nat.{ℕ, zero, suc, _+_, _≤_, _<_}
+use Prim.Native.Nat.{ℕ, zero, suc, _+_, _<_}
 use native.Mathlib.Omega.{arith}
-use lib.ListN.{length, take, length-append}
+use lib.ListN.{length, take}
 use Rattle.definition.specs.declared.Cell.{Cell}
 use Rattle.expression.specs.declared.Value.{Value}
 use Rattle.expression.specs.Grammar.{Expr}
 use Rattle.expression.specs.Reader.{Outcome, gives, refused, trees}
 use Rattle.expression.proofs.Spans.{by-bool}
-use Rattle.assembly.specs.Grammar.{Line, Row, Rows}
+use Rattle.assembly.specs.Grammar.{Line}
 use Rattle.assembly.specs.Grammar as G
 use Rattle.assembly.specs.Reader.{Text, lines, broken, row, onto, rowsAfter, rows}
-use Rattle.assembly.specs.Assemble.{placeIn, lineValues, lineCell, labelsOf, lowest, wrongLabels, wrongValues, cells, refuses, otherwise, judged, assembled, assemble}
-use Rattle.assembly.specs.Theorems.{Stands, Fault, NoFault, Lowest, valued, Whole, Lowest13, LowestOf13, LowestOf14, LowestOf15}
+use Rattle.assembly.specs.Assemble.{lineCell, labelsOf, lowest, wrongLabels, wrongValues, cells, refuses, otherwise, judged, assembled, assemble}
+use Rattle.assembly.specs.Theorems.{Stands, NoFault, Lowest, valued, Whole, Lowest13, LowestOf13, LowestOf14, LowestOf15}
 use Rattle.assembly.specs.Theorems as T
 use Rattle.assembly.proofs.Sound.{row-sound, rows-sound}
 use Rattle.assembly.proofs.Complete.{row-reads}

@@ -1,13 +1,9 @@
 use Rattle.word.proofs.Laws.{back}
-use Rattle.definition.specs.Word.{wrapped, wrap}
-use Rattle.lines.specs.Reader.{valueOf}
+use Rattle.definition.specs.Word.{wrapped}
+use Rattle.decimal.specs.Decimal.{valueOf}
 use borrow.Author.Needs.{needs}
-use Rattle.lines.proofs.value_of.Statement.{statement}
-use Rattle.lines.proofs.value_of.Tie as tie
-use Rattle.lines.proofs.value_of.Reads as reads
-use Rattle.lines.proofs.value_of.Lts as lts
-use Rattle.word.proofs.neg.Reads as neg-reads
-use Rattle.word.proofs.of_bits.Reads as of-bits-reads
+use Rattle.decimal.proofs.value.Statement.{statement}
+use Rattle.decimal.proofs.value.Tie as tie
 
 of-bits-requires : tie.Need-of-bits-requires
 of-bits-requires c κs = search needs
@@ -26,5 +22,5 @@ unfolding valueOf
 returns-2 c = let w = c .before .of-bits in
     rw (back (w .result) (w .ok), w .ensures, c .if1 .left)
 
-pub value-of-spec : {M : Type 1} → statement M
-value-of-spec = tie.close (tie.spec of-bits-requires neg-requires returns returns-2)
+pub value-spec : {M : Type 1} → statement M
+value-spec = tie.close (tie.spec of-bits-requires neg-requires returns returns-2)
