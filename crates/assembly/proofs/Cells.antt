@@ -6,7 +6,7 @@ use mathlib.Core.Option.{Option, some, none}
 use Prim.Native.Nat.{ℕ, zero, suc, _+_, _*_, _/_, _%_, _≤_, _<_}
 use native.Mathlib.Omega.{arith}
 use lib.IntN.{ℤ, pos}
-use lib.ListN.{length, getD}
+use lib.ListN.{length, getD, length-map}
 use lib.Dec.{ltb, leb, eqb}
 use borrow.Author.Tests.{ltb-true}
 use Rattle.definition.specs.declared.Cell.{Cell}
@@ -22,7 +22,7 @@ use Rattle.assembly.specs.Grammar.{Arg, None, Imm, Reg, Dir, Ind, Idx, m
 use Rattle.assembly.specs.Grammar as G
 use Rattle.assembly.specs.Reader.{Text, lines, broken, rows}
 use Rattle.assembly.specs.Assemble.{placeIn, labelsOf, argOf, bodyOf, lineValues, argExceeds, exceeds, argRegister, argNumber, bodyCell, lineCell, lowest, wrongLabels, wrongValues, Assembled, cells, refuses, otherwise, judged, assembled, assemble}
-use Rattle.assembly.specs.Theorems.{allSound, OneReading, Refused13, Accepted, CellsSound}
+use Rattle.assembly.specs.Theorems.{CellsFit, allSound, OneReading, Refused13, Accepted, CellsSound}
 use Rattle.assembly.proofs.Names.{legal-below}
 use Rattle.assembly.proofs.Sound.{rows-sound}
 use Rattle.assembly.proofs.Complete.{rows-complete}
@@ -184,6 +184,19 @@ pub cells-sound : CellsSound
 unfolding assemble
 cells-sound room t vs h = text-sound room t (rows trees 32 room t) vs refl h
 
+text-fits : (room : ℕ) (t : List ℕ) (x : Text Expr) (vs : List Cell) → rows trees 32 room t ≡ x → assembled x ≡ cells vs → length vs ≤ room
+unfolding assembled judged
+text-fits room t (lines ls) vs e h =
+    let p = placeIn 0 (labelsOf ls) in
+    let a = passed (lowest wrongLabels 0 [] (map (lineValues p) ls)) (lowest wrongValues 0 [] (map (lineValues p) ls)) (map lineCell (map (lineValues p) ls)) vs h in
+    let n : length vs ≡ length ls = rw (← a .1) (simp length-map) in
+    omega (arith, rows-sound 32 room t ls e .1)
+text-fits room t (broken k) vs e h = apart h
+
+pub cells-fit : CellsFit
+unfolding assemble
+cells-fit room t vs h = text-fits room t (rows trees 32 room t) vs refl h
+
 pub one-reading : OneReading
 one-reading t ls ms p q = C.one-reading 32 p q
 
@@ -198,7 +211,7 @@ pub accepted : Accepted
 unfolding assemble
 accepted room t vs h = accepted-by room t (rows trees 32 room t) vs refl h
 
-other-number : (x y : Option ℕ) (ws : List Cell) (k : ℕ) → otherwise 14 x (otherwise 15 y (cells ws)) ≡ refuses 13 k → ⊥
+pub other-number : (x y : Option ℕ) (ws : List Cell) (k : ℕ) → otherwise 14 x (otherwise 15 y (cells ws)) ≡ refuses 13 k → ⊥
 unfolding otherwise
 other-number none none ws k h = apart (sym h)
 other-number none (some j) ws k h = let z : _≡_ {A = ℕ} 15 13 = cc in absurd (omega arith)

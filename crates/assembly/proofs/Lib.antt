@@ -6,3 +6,4 @@ pub mod Fused
 pub mod Placed
 pub mod Texts
 pub mod Cells
+pub mod Lowest

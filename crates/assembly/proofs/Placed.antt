@@ -1,24 +1,25 @@
 -- The lines of a text of the grammar are those between its line ends, and a label is set where the search of the text finds it. Assumes nothing.
 use mathlib.Core.Path.{_≡_, refl, sym, ap, _∙_, fun-ext}
-use mathlib.Core.Bool.{Bool, true, false, cond, not, _&&_}
-use mathlib.Core.List.{List, [], _∷_, _++_, append-assoc, map}
+use mathlib.Core.Bool.{true, false, cond}
+use mathlib.Core.List.{List, [], _∷_, _++_, append-assoc}
 use mathlib.Core.Option.{Option, some, none}
-use Prim.Native.Nat.{ℕ, zero, suc, _+_, _≤_, _<_}
+use Prim.Native.Nat.{ℕ, zero, suc, _+_, _<_}
 use native.Mathlib.Omega.{arith}
 use lib.ListN.{length, getD}
 use lib.Dec.{leb, eqb}
 use borrow.Author.Tests.{ne-eqb}
+use Rattle.decimal.specs.Decimal as D
 use Rattle.expression.specs.Grammar.{Expr, Gap, Digits, Letters, Part, Reads}
 use Rattle.expression.specs.Grammar as EG
-use Rattle.expression.specs.Reader.{same, Outcome, gives, refused, then, head, tail, front, past, isLetter, skip, trees}
+use Rattle.expression.specs.Reader.{Outcome, gives, refused, head, tail, front, past, isLetter, skip, trees}
 use Rattle.expression.specs.Table.{isLabelled, sets, isInner, nextLine, setting}
 use Rattle.expression.proofs.Spans.{by-bool, every, past-of}
-use Rattle.expression.proofs.Chain.{middle, when, value-of, never}
+use Rattle.expression.proofs.Chain.{middle, when, value-of}
 use Rattle.expression.proofs.Complete.{every-append}
 use Rattle.expression.proofs.Lookup.{setting-nil, setting-step}
 use Rattle.assembly.specs.Grammar.{Arg, Body, Line, line, mnemonics, registers, Named, named, Mark, mark, Register, register, Index, Operand, Content, Row}
 use Rattle.assembly.specs.Grammar as G
-use Rattle.assembly.specs.Reader.{content, ended, row, Text, lines, broken, onto, rows, rowsAfter}
+use Rattle.assembly.specs.Reader.{content, ended, row, lines, rows, rowsAfter}
 use Rattle.assembly.specs.Assemble.{setsLabel, placeIn, labelsOf}
 use Rattle.assembly.proofs.Names.{all, all-at}
 use Rattle.assembly.proofs.Sound.{row-sound, onto-lines, lines-path}
@@ -49,8 +50,8 @@ joined : {s u : List ℕ} → Inside s → Inside u → Inside (s ++ u)
 joined {s} {u} h k = record { inside = every-append isInner s u (h .inside) (k .inside) }
 
 inner-digits : {s : List ℕ} {v : ℕ} → Digits s v → Inside s
-inner-digits (EG.one {d} h) = inner-cons (48 + d) [] (omega arith) inner-nil
-inner-digits (EG.more {s} {v} {d} q h) = joined (inner-digits q) (inner-cons (48 + d) [] (omega arith) inner-nil)
+inner-digits (D.one {d} h) = inner-cons (48 + d) [] (omega arith) inner-nil
+inner-digits (D.more {s} {v} {d} q h) = joined (inner-digits q) (inner-cons (48 + d) [] (omega arith) inner-nil)
 
 inner-letters : {s : List ℕ} → Letters s → Inside s
 inner-letters (EG.one {b} h i) = inner-cons b [] (omega arith) inner-nil

@@ -1,28 +1,25 @@
 -- What the code's steps make of a text. Assumes nothing.
 use mathlib.Core.Path.{_≡_, refl, sym, ap, _∙_, subst}
-use mathlib.Core.Bool.{Bool, true, false, cond, not, _&&_, _||_}
-use mathlib.Core.List.{List, [], _∷_, _++_}
-use Prim.Native.Nat.{ℕ, zero, suc, _+_, _*_, _-_, _≤_, _<_, _^_}
+use mathlib.Core.Bool.{Bool, true, false}
+use mathlib.Core.List.{List, [], _∷_}
+use Prim.Native.Nat.{ℕ, zero, suc, _+_, _*_, _-_, _≤_, _<_}
 use native.Mathlib.Omega.{arith}
-use lib.IntN.{ℤ, pos, negsuc, negℤ}
+use lib.IntN.{pos, negℤ}
 use lib.ListN.{length, drop}
-use lib.Dec.{ltb, leb, eqb}
-use mir.Syntax.{w64}
-use mir.Val.{toZ, SFits}
-use mir.Facts.{toZ-pos}
-use borrow.Author.Tests.{leb-true, le-leb, lt-leb, lt-ltb, le-ltb, eqb-true, eq-eqb, ne-eqb}
+use lib.Dec.{eqb}
+use borrow.Author.Tests.{le-leb, lt-leb, lt-ltb, le-ltb, eqb-true, eq-eqb, ne-eqb}
+use Rattle.decimal.proofs.Laws.{value-minus}
 use Rattle.expression.specs.declared.Value.{Value}
-use Rattle.definition.specs.Word.{wrap, isWord}
-use Rattle.definition.proofs.Words.{wrap-word}
+use Rattle.definition.specs.Word.{isWord}
 use Rattle.word.proofs.Laws.{ltb-elim}
 use Rattle.expression.specs.declared.Reading.{Reading}
 use Rattle.expression.specs.declared.Reading.the-variants as R
-use Rattle.expression.specs.Reader.{Algebra, Outcome, gives, refused, then, head, tail, front, past, isSpace, isDigit, isLetter, skip, decimal, signed, Level, isStar, isSign, productLevel, sumLevel, chain, chained, links, numbered, labelled, closed, atomWith, productWith, sumWith, within, readSum, readProduct, readAtom}
-use mathlib.Core.Option.{Option, some, none}
+use Rattle.expression.specs.Reader.{Outcome, gives, refused, then, head, tail, front, past, isSpace, isDigit, isLetter, skip, decimal, signed, Level, productLevel, sumLevel, chained, links, numbered, labelled, closed, atomWith, productWith, sumWith, within, readSum, readProduct, readAtom}
+use mathlib.Core.Option.{Option}
 use Rattle.expression.specs.Values.{values, noLabels, numberValue, labelValue, placeValue}
-use Rattle.expression.specs.Code.{Read, Place, Made, told, forward, onward, follows, ahead, operandAt, stepped, capped, capStep, capDecimal, sizedValue}
+use Rattle.expression.specs.Code.{Read, Place, Made, told, forward, onward, follows, ahead, operandAt, stepped, capped, capStep, valueOf, capDecimal, sizedValue}
 use Rattle.expression.proofs.Spans.{by-bool, clash, every, every-head, every-tail, front-every}
-use Rattle.expression.proofs.Chain.{Shrinks, chained-step, readAtom-shrinks, readProduct-shrinks, star-ends, sign-ends}
+use Rattle.expression.proofs.Chain.{Shrinks, chained-step}
 use Rattle.expression.proofs.Sound.{digit-bounds}
 use Rattle.expression.proofs.Places.{tail-drop, inside, run-length}
 
@@ -46,20 +43,6 @@ cap-decimal (b ∷ s) w h =
     let p = digit-bounds b (every-head isDigit b s h) in
     rw (cap-step w (b - 48) (omega arith)) (cap-decimal s (w * 10 + (b - 48)) (every-tail isDigit b s h))
 
-minus-fits : (v : ℕ) → v < 9223372036854775808 → SFits w64 (negℤ (pos v))
-minus-fits zero h = record { sfits = omega arith }
-minus-fits (suc k) h = record { sfits = omega arith }
-
-value-least : wrap (negℤ (toZ w64 9223372036854775808)) ≡ negℤ (pos 9223372036854775808)
-unfolding wrap
-value-least = refl
-
-value-minus : (v : ℕ) → v ≤ 9223372036854775808 → wrap (negℤ (toZ w64 v)) ≡ negℤ (pos v)
-value-minus v h =
-    ltb-elim v 9223372036854775808
-    (λ e lt. rw (toZ-pos w64 lt) (wrap-word (negℤ (pos v)) (minus-fits v lt)))
-    (λ e ge. let q : v ≡ 9223372036854775808 = omega arith in rw q value-least)
-
 word-minus : (v : ℕ) → v ≤ 9223372036854775808 → isWord (negℤ (pos v)) ≡ true
 unfolding isWord
 word-minus zero h = refl
@@ -71,7 +54,7 @@ no-word-minus zero h = absurd (omega arith)
 no-word-minus (suc k) h = le-ltb k 9223372036854775808 (omega arith)
 
 sized-is : (m : Bool) (n : ℕ) → sizedValue m (capped n) ≡ numberValue (signed m n)
-unfolding sizedValue capped numberValue signed isWord
+unfolding sizedValue capped numberValue signed isWord valueOf
 sized-is false n =
     ltb-elim 9223372036854775808 n
     (λ e lt. rw (e, le-ltb n 9223372036854775808 (omega arith)))
@@ -84,7 +67,7 @@ sized-is true n =
     (λ e ge. rw (e, le-leb n 9223372036854775808 ge, word-minus n ge, value-minus n ge))
 
 pub small-value : (n : ℕ) → sizedValue false n ≡ numberValue (pos n)
-unfolding sizedValue numberValue isWord
+unfolding sizedValue numberValue isWord valueOf
 small-value n =
     ltb-elim n 9223372036854775808
     (λ e lt. rw (e, le-leb n 9223372036854775807 (omega arith)))

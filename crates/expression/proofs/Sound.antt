@@ -1,16 +1,17 @@
 -- What the reader takes off a text is a part of an expression by the grammar. Assumes nothing.
 use mathlib.Core.Path.{_≡_, refl, sym, ap, _∙_, subst}
-use mathlib.Core.Bool.{Bool, true, false, cond, _&&_, _||_}
+use mathlib.Core.Bool.{Bool, true, false, cond, _&&_}
 use mathlib.Core.List.{List, [], _∷_, _++_, append-assoc, append-nil}
-use Prim.Native.Nat.{ℕ, zero, suc, _+_, _*_, _-_, _≤_, _<_}
+use Prim.Native.Nat.{ℕ, zero, suc, _+_, _*_, _-_, _≤_}
 use native.Mathlib.Omega.{arith}
 use lib.IntN.{pos, negℤ}
 use lib.ListN.{length}
 use lib.Dec.{leb, eqb}
 use borrow.Author.Tests.{leb-true, eqb-true}
-use Rattle.expression.specs.Grammar.{Expr, Number, Label, Plus, Minus, Times, Gap, Digits, Letters, Part, sum, product, atom, Reads}
+use Rattle.decimal.specs.Decimal as D
+use Rattle.expression.specs.Grammar.{Expr, Number, Label, Plus, Minus, Times, Gap, Digits, Letters, sum, product, atom, Reads}
 use Rattle.expression.specs.Grammar as G
-use Rattle.expression.specs.Reader.{Algebra, Outcome, gives, refused, then, head, tail, front, past, isSpace, isDigit, isLetter, skip, decimal, signed, trees, Level, isStar, isSign, productLevel, sumLevel, chain, chained, links, numbered, labelled, closed, atomWith, productWith, sumWith, within, readSum, readProduct, readAtom}
+use Rattle.expression.specs.Reader.{Outcome, gives, head, tail, front, past, isSpace, isDigit, isLetter, skip, decimal, signed, trees, Level, isStar, isSign, productLevel, sumLevel, chain, chained, links, numbered, labelled, closed, atomWith, productWith, sumWith, within, readSum}
 use Rattle.expression.proofs.Spans.{by-bool, clash, every, every-head, every-tail, front-past, front-every, cons-of}
 use Rattle.expression.proofs.Chain.{middle, when, rest-of, value-of, never, star-ends, sign-ends}
 
@@ -54,7 +55,7 @@ more-digits [] {u} r h = rw append-nil r
 more-digits (b ∷ s) {u} {w} r h =
     let p = digit-bounds b (every-head isDigit b s h) in
     let e : 48 + (b - 48) ≡ b = omega arith in
-    let n : Digits (u ++ (b ∷ [])) (w * 10 + (b - 48)) = subst (λ (d : ℕ). Digits (u ++ (d ∷ [])) (w * 10 + (b - 48))) e (G.more {d = b - 48} r (omega arith)) in
+    let n : Digits (u ++ (b ∷ [])) (w * 10 + (b - 48)) = subst (λ (d : ℕ). Digits (u ++ (d ∷ [])) (w * 10 + (b - 48))) e (D.more {d = b - 48} r (omega arith)) in
     rw append-assoc at (more-digits s n (every-tail isDigit b s h))
 
 pub digits : (s : List ℕ) → every isDigit s ≡ true → isDigit (head s) ≡ true → Digits s (decimal 0 s)
@@ -64,7 +65,7 @@ digits (b ∷ s) h i =
     let p = digit-bounds b i in
     let e : 48 + (b - 48) ≡ b = omega arith in
     let z : 0 * 10 + (b - 48) ≡ b - 48 = omega arith in
-    let n : Digits (b ∷ []) (0 * 10 + (b - 48)) = rw z (subst (λ (d : ℕ). Digits (d ∷ []) (b - 48)) e (G.one {d = b - 48} (omega arith))) in
+    let n : Digits (b ∷ []) (0 * 10 + (b - 48)) = rw z (subst (λ (d : ℕ). Digits (d ∷ []) (b - 48)) e (D.one {d = b - 48} (omega arith))) in
     more-digits s n (every-tail isDigit b s h)
 
 pub letters : (s : List ℕ) → every isLetter s ≡ true → isLetter (head s) ≡ true → Letters s

@@ -2,14 +2,13 @@
 use mathlib.Core.Path.{_≡_}
 use mathlib.Core.Bool.{Bool, true, false, cond}
 use mathlib.Core.List.{List, [], _∷_}
-use Prim.Native.Nat.{ℕ, _+_, _*_, _-_, _≤_, _<_}
-use lib.IntN.{ℤ, pos, negℤ}
+use Prim.Native.Nat.{ℕ, _+_, _-_, _≤_, _<_}
+use lib.IntN.{pos}
 use lib.ListN.{length, drop}
 use lib.Dec.{ltb, leb}
-use mir.Syntax.{w64}
-use mir.Val.{toZ}
 use Rattle.expression.specs.declared.Value.{Value}
-use Rattle.definition.specs.Word.{wrap}
+unfoldable pub use Rattle.decimal.specs.Decimal.{capStep, valueOf}
+pub use Rattle.decimal.specs.Decimal.{limit}
 use Rattle.expression.specs.declared.Reading.{Reading}
 use Rattle.expression.specs.declared.Reading.the-variants as R
 use Rattle.expression.specs.Values.{valued}
@@ -67,13 +66,9 @@ stepped L o q = then o (λ x t. then q (λ y u. gives (L .join (head t) x y) u))
 unfoldable pub capped : ℕ → ℕ
 capped n = cond (ltb 9223372036854775808 n) 9223372036854775809 n
 
-unfoldable pub capStep : ℕ → ℕ → ℕ
-capStep v d = cond (ltb 922337203685477580 v) 9223372036854775809 (v * 10 + d)
-
 unfoldable pub capDecimal : ℕ → List ℕ → ℕ
 capDecimal v [] = v
 capDecimal v (b ∷ s) = capDecimal (capStep v (b - 48)) s
 
 unfoldable pub sizedValue : Bool → ℕ → Value
-sizedValue false m = cond (leb m 9223372036854775807) (valued false false (toZ w64 m)) (valued false true (pos 0))
-sizedValue true m = cond (leb m 9223372036854775808) (valued false false (wrap (negℤ (toZ w64 m)))) (valued false true (pos 0))
+sizedValue b m = cond (leb m (limit b)) (valued false false (valueOf b m)) (valued false true (pos 0))

@@ -96,10 +96,7 @@ pub fn grown(size: u64, b: u8) -> u64
     requires { ⌜ (48 ≤ b) × (b ≤ 57) ⌝ }
     ensures { λ r. ⌜ r ≡ capStep size (b - 48) ⌝ }
 {
-    if 922337203685477580 < size {
-        return 9223372036854775809;
-    }
-    size * 10 + (b - 48) as u64
+    decimal::grown(size, b - 48)
 }
 
 pub fn digits(s: &[u8], at: usize) -> Run
@@ -118,25 +115,9 @@ pub fn digits(s: &[u8], at: usize) -> Run
 pub fn sized(minus: bool, size: u64) -> Value
     ensures { λ r. ⌜ r ≡ sizedValue minus size ⌝ }
 {
-    let w = word::of_bits(size);
-    if minus {
-        if size <= 9223372036854775808 {
-            let n = word::neg(w);
-            return Value {
-                value: n.value,
-                missing: false,
-                overflow: false,
-            };
-        }
+    if decimal::is_within(minus, size) {
         return Value {
-            value: 0,
-            missing: false,
-            overflow: true,
-        };
-    }
-    if size <= 9223372036854775807 {
-        return Value {
-            value: w,
+            value: decimal::value(minus, size),
             missing: false,
             overflow: false,
         };

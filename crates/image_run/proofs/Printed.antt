@@ -11,6 +11,7 @@ use mir.Val.{SFits}
 use Rattle.word.proofs.Laws.{ltb-elim}
 use Rattle.lines.specs.Reader.{readText}
 use Rattle.lines.specs.Grammar.{Digits, Numeral, Image, Breaks}
+use Rattle.decimal.specs.Decimal as D
 use Rattle.lines.specs.Grammar as G
 use Rattle.lines.proofs.Complete.{startOf}
 use Rattle.lines.proofs.Exact.{taken, broken-at}
@@ -33,13 +34,13 @@ refusal-printed {k} {s} h b = refused-report (readText s) (k + 1) (sym (broken-a
 -- What stands for a number is a numeral of the grammar, and that number's.
 digits-printed : (k n : ℕ) → n < 10 ^ suc k → Digits (decimalIn (suc k) n) n
 unfolding decimalIn
-digits-printed zero n h = ltb-elim n 10 (λ e l. rw e (G.one l)) (λ e l. absurd (omega arith))
+digits-printed zero n h = ltb-elim n 10 (λ e l. rw e (D.one l)) (λ e l. absurd (omega arith))
 digits-printed (suc k) n h =
     let p = pow-suc 10 (suc k) in
     let q : n / 10 * 10 + n % 10 ≡ n = omega arith in
     ltb-elim n 10
-    (λ e l. rw e (G.one l))
-    (λ e l. rw e (subst (Digits (decimalIn (suc k) (n / 10) ++ ((48 + n % 10) ∷ []))) q (G.more (digits-printed k (n / 10) (omega arith)) (omega arith))))
+    (λ e l. rw e (D.one l))
+    (λ e l. rw e (subst (Digits (decimalIn (suc k) (n / 10) ++ ((48 + n % 10) ∷ []))) q (D.more (digits-printed k (n / 10) (omega arith)) (omega arith))))
 
 pub decimal-printed : (n : ℕ) → n < 2 ^ 64 → Digits (decimal n) n
 decimal-printed n h = digits-printed 19 n (omega arith)

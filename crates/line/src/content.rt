@@ -5,12 +5,12 @@ use super::Body;
 use super::BodyRead;
 use super::Line;
 use super::LineRead;
-use super::forms::is_form;
 use super::names::is_word;
 use super::names::mnemonic;
 use super::operands::as_value;
 use super::operands::operand;
 use super::operands::without_value;
+use encoding::forms::is_legal;
 use expression::is_space;
 use expression::peek;
 use expression::skip_letters;
@@ -32,7 +32,7 @@ pub fn coded(s: &[u8], op: u32, x: Arg, r: ArgRead) -> BodyRead
     let ArgRead::Is(y, n) = r else {
         return BodyRead::Not;
     };
-    if is_form(op, x.mode, y.mode) {
+    if is_legal(op, x.mode, y.mode) {
         return BodyRead::Is(Body { op, x, y }, n);
     }
     BodyRead::Not
@@ -58,7 +58,7 @@ pub fn operands(s: &[u8], labels: &[usize], op: u32, at: usize) -> BodyRead
     requires { ⌜ (op < 33) × (at ≤ length (now s)) × Usable (now labels) ⌝ }
     ensures { λ q. ⌜ BodyIs (now (s .entry)) (operands (values (lookup (now (s .entry)) (now (labels .entry)))) 32 op (drop at (now (s .entry)))) q ⌝ }
 {
-    if is_form(op, 0, 0) {
+    if is_legal(op, 0, 0) {
         let n = skip_spaces(s, at);
         return BodyRead::Is(
             Body {

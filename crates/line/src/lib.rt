@@ -1,6 +1,5 @@
 // A line of a program written as text: its operands, what stands in its cell, its label.
 pub mod content;
-pub mod forms;
 pub mod names;
 pub mod operands;
 

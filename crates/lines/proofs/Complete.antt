@@ -1,25 +1,21 @@
 -- Each text of the grammar is read to the grammar's image. Assumes nothing.
-use mathlib.Core.Path.{_≡_, refl, sym, ap, _∙_, subst}
+use mathlib.Core.Path.{_≡_, refl, ap, _∙_}
 use mathlib.Core.Bool.{Bool, true, false}
 use mathlib.Core.List.{List, [], _∷_, _++_, foldl, foldl-append}
-use Prim.Native.Nat.{ℕ, zero, suc, _+_, _*_, _-_, _≤_, _<_, _^_}
+use Prim.Native.Nat.{ℕ, suc, _+_, _*_, _-_, _≤_, _<_, _^_}
 use native.Mathlib.Omega.{arith}
-use lib.Dec.{eqb, ltb, leb}
-use lib.IntN.{ℤ, pos, negsuc, negℤ, natAbs}
-use borrow.Author.Tests.{lt-ltb, le-ltb, le-leb, eq-eqb, ne-eqb}
-use mir.Syntax.{w64}
-use mir.Val.{toZ, SFits}
-use mir.Facts.{toZ-pos}
-use Rattle.definition.specs.Word.{wrap, addressOf}
+use lib.IntN.{ℤ, pos, natAbs}
+use borrow.Author.Tests.{lt-ltb, le-ltb, le-leb, ne-eqb}
+use Rattle.definition.specs.Word.{addressOf}
 use Rattle.definition.specs.Memory.{cell, putCell}
 use Rattle.definition.specs.Encoding.{sound, isAddress}
 use Rattle.definition.specs.Calls.{isBelow}
-use Rattle.definition.proofs.Words.{wrap-word}
-use Rattle.word.proofs.Laws.{ltb-elim}
+use Rattle.decimal.specs.Decimal as D
+use Rattle.decimal.proofs.Laws.{value-plus, value-minus}
 use Rattle.lines.specs.declared.Field.{Field}
 use Rattle.lines.specs.declared.Start.{Start}
 use Rattle.lines.specs.declared.Reader.{Reader}
-use Rattle.lines.specs.Reader.{noField, opened, limit, valueOf, letter, openingByte, digit, comma, minus, plain, within, following, next, started, startLine, State, state, lineCell, cellLine, lineEnd, step, brokenLine, emptyCells, readText}
+use Rattle.lines.specs.Reader.{noField, opened, limit, valueOf, letter, openingByte, digit, comma, minus, plain, within, following, next, startLine, State, state, cellLine, lineEnd, step, brokenLine, emptyCells, readText}
 use Rattle.lines.specs.Grammar.{Digits, Numeral, StartLine, CellLine, CellLines, Image}
 use Rattle.lines.specs.Grammar as G
 
@@ -34,25 +30,6 @@ abbrev pub at : ℕ → Start → ℕ → ℤ → ℤ → ℤ → Field → Read
 at n st k x y z f =
     record { line = n; broken = false; opening = 6; count = k; last = record { x = x; y = y; z = z }; field = f; start = st }
 
-pub value-plus : (v : ℕ) → v ≤ 9223372036854775807 → valueOf false v ≡ pos v
-unfolding valueOf
-value-plus v h = toZ-pos w64 (omega arith)
-
-minus-fits : (v : ℕ) → v < 9223372036854775808 → SFits w64 (negℤ (pos v))
-minus-fits zero h = record { sfits = omega arith }
-minus-fits (suc k) h = record { sfits = omega arith }
-
-value-least : valueOf true 9223372036854775808 ≡ negℤ (pos 9223372036854775808)
-unfolding valueOf wrap
-value-least = refl
-
-pub value-minus : (v : ℕ) → v ≤ 9223372036854775808 → valueOf true v ≡ negℤ (pos v)
-unfolding valueOf
-value-minus v h =
-    ltb-elim v 9223372036854775808
-    (λ e lt. rw (toZ-pos w64 lt) (wrap-word (negℤ (pos v)) (minus-fits v lt)))
-    (λ e ge. let q : v ≡ 9223372036854775808 = omega arith in rw q value-least)
-
 module _ (n : ℕ) (st : Start) (l : List ℤ) (k : ℕ) (x y z : ℤ) where
   abbrev here : Field → State
   here f = state (at n st k x y z f) l
@@ -65,9 +42,9 @@ module _ (n : ℕ) (st : Start) (l : List ℤ) (k : ℕ) (x y z : ℤ) where
       rw (ne-eqb (48 + d) 10 (omega arith), le-ltb (48 + d) 48 (omega arith), lt-ltb (48 + d) 58 (omega arith), e, le-leb (m * 10 + d) (limit b) f)
 
   digits-taken : {s : List ℕ} {v : ℕ} → Digits s v → (b : Bool) → v ≤ limit b → foldl step (here (fieldOf b false 0)) s ≡ here (fieldOf b true v)
-  digits-taken (G.one {d} h) b f = let e : 0 * 10 + d ≡ d = omega arith in
+  digits-taken (D.one {d} h) b f = let e : 0 * 10 + d ≡ d = omega arith in
       rw e at (digit-taken b false 0 d h (omega arith))
-  digits-taken (G.more {s} {v} {d} r h) b f =
+  digits-taken (D.more {s} {v} {d} r h) b f =
       foldl-append step (here (fieldOf b false 0)) s ((48 + d) ∷ [])
       ∙ ap (λ (u : State). step u (48 + d)) (digits-taken r b (omega arith))
       ∙ digit-taken b true v d h f

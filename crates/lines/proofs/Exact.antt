@@ -6,9 +6,9 @@ use Prim.Native.Nat.{ℕ, zero, suc, _+_, _*_, _-_, _≤_, _<_}
 use native.Mathlib.Omega.{arith}
 use native.Mathlib.Numerals.{add-one}
 use lib.Dec.{eqb, ltb, leb}
-use lib.IntN.{ℤ, pos, negℤ, natAbs}
+use lib.IntN.{ℤ, pos, natAbs}
 use lib.ListN.{length, take, length-append}
-use borrow.Author.Tests.{ltb-true, ltb-false, leb-true, leb-false, eqb-true, eqb-false, lt-ltb, le-ltb, le-leb, lt-leb, eq-eqb, ne-eqb}
+use borrow.Author.Tests.{ltb-true, ltb-false, leb-true, eqb-true, lt-ltb, eq-eqb, ne-eqb}
 use Rattle.definition.specs.Word.{addressOf}
 use Rattle.definition.specs.Memory.{cell, putCell}
 use Rattle.definition.specs.Encoding.{sound, isAddress}
@@ -17,10 +17,12 @@ use Rattle.encoding.proofs.Rule.{both}
 use Rattle.lines.specs.declared.Field.{Field}
 use Rattle.lines.specs.declared.Start.{Start}
 use Rattle.lines.specs.declared.Reader.{Reader}
-use Rattle.lines.specs.Reader.{noField, opened, limit, valueOf, letters, letter, openingByte, digit, comma, minus, plain, within, following, next, started, startLine, State, state, lineCell, cellLine, lineEnd, step, brokenLine, emptyCells, readText, broken}
+use Rattle.lines.specs.Reader.{noField, opened, limit, valueOf, letters, letter, openingByte, digit, comma, minus, plain, within, following, next, startLine, State, state, lineCell, cellLine, lineEnd, step, brokenLine, emptyCells, readText, broken}
 use Rattle.lines.specs.Grammar.{Digits, Numeral, StartLine, CellLine, CellLines, Image, Front, Good, Breaks}
 use Rattle.lines.specs.Grammar as G
-use Rattle.lines.proofs.Complete.{at, fieldOf, startOf, Reached, complete, start-line, cell-line, followed, value-plus, value-minus}
+use Rattle.decimal.specs.Decimal as D
+use Rattle.decimal.proofs.Laws.{value-plus, value-minus}
+use Rattle.lines.proofs.Complete.{at, fieldOf, startOf, complete, start-line, cell-line, followed}
 
 -- a Bool is one of two
 by-bool : (b : Bool) {P : Type 0} → (b ≡ true → P) → (b ≡ false → P) → P
@@ -130,12 +132,12 @@ digit-is b h = omega arith
 -- a digit more
 digit-one : (b : ℕ) → 48 ≤ b → b < 58 → Digits (b ∷ []) (b - 48)
 digit-one b l h =
-    let t : Digits ((48 + (b - 48)) ∷ []) (b - 48) = G.one {d = b - 48} (omega arith) in
+    let t : Digits ((48 + (b - 48)) ∷ []) (b - 48) = D.one {d = b - 48} (omega arith) in
     rw (digit-is b l) at t
 
 digit-more : {s : List ℕ} {v : ℕ} (b : ℕ) → Digits s v → 48 ≤ b → b < 58 → Digits (s ++ (b ∷ [])) (v * 10 + (b - 48))
 digit-more {s} {v} b r l h =
-    let t : Digits (s ++ ((48 + (b - 48)) ∷ [])) (v * 10 + (b - 48)) = G.more {d = b - 48} r (omega arith) in
+    let t : Digits (s ++ ((48 + (b - 48)) ∷ [])) (v * 10 + (b - 48)) = D.more {d = b - 48} r (omega arith) in
     subst (λ (d : ℕ). Digits (s ++ (d ∷ [])) (v * 10 + (b - 48))) (digit-is b l) t
 
 grown : {a : List ℕ} {f : Field} (b : ℕ) → Partial a f → 48 ≤ b → b < 58 → leb (f .magnitude * 10 + (b - 48)) (limit (f .minus)) ≡ true → Partial (a ++ (b ∷ [])) (fieldOf (f .minus) true (f .magnitude * 10 + (b - 48)))

@@ -1,9 +1,8 @@
 -- How the reader's definition moves. Assumes nothing.
 use mathlib.Core.Path.{_≡_, refl, ap, _∙_}
-use mathlib.Core.Bool.{Bool, true, false, _&&_}
-use Prim.Native.Nat.{ℕ, zero, suc, _+_, _≤_, _<_}
+use mathlib.Core.Bool.{true, false, _&&_}
+use Prim.Native.Nat.{ℕ, zero, suc, _+_, _<_}
 use mathlib.Core.List.{List, foldl}
-use native.Mathlib.Omega.{arith}
 use native.Mathlib.Numerals.{add-one}
 use lib.ListN.{length, drop, getD, replicate}
 use lib.Seq.{drop-cons, drop-length}
@@ -14,7 +13,7 @@ use Rattle.definition.specs.Memory.{putCell}
 use Rattle.definition.specs.Encoding.{sound}
 use Rattle.definition.specs.Calls.{isBelow}
 use Rattle.lines.specs.declared.Reader.{Reader}
-use Rattle.lines.specs.Reader.{emptyCells, letter, limit, State, state, step, broken, next, startLine, lineCell, cellLine, lineEnd}
+use Rattle.lines.specs.Reader.{emptyCells, letter, State, state, step, broken, next, startLine, lineCell, cellLine, lineEnd}
 
 -- cells that all hold one number, which is 0
 pub all-zero : {l : List ℤ} → getD l 0 (pos 0) ≡ pos 0 → l ≡ replicate 6144 (getD l 0 (pos 0)) → l ≡ emptyCells
@@ -30,10 +29,6 @@ letter-last (suc (suc (suc zero))) h₀ h₁ h₂ h₃ h₄ = absurd (h₃ refl)
 letter-last (suc (suc (suc (suc zero)))) h₀ h₁ h₂ h₃ h₄ = absurd (h₄ refl)
 letter-last (suc (suc (suc (suc (suc zero))))) h₀ h₁ h₂ h₃ h₄ = refl
 letter-last (suc (suc (suc (suc (suc (suc i)))))) h₀ h₁ h₂ h₃ h₄ = refl
-
-pub limit-most : (minus : Bool) → limit minus ≤ 9223372036854775808
-limit-most true = omega arith
-limit-most false = omega arith
 
 -- one byte of a text is taken
 pub fold-more : (t : List ℕ) (i : ℕ) (s u : State) → i < length t → u ≡ step s (getD t i 0) → foldl step u (drop (i + 1) t) ≡ foldl step s (drop i t)

@@ -3,18 +3,14 @@
 use mathlib.Core.Path.{_≡_}
 use mathlib.Core.Bool.{true}
 use mathlib.Core.List.{List, [], _∷_, _++_}
-use Prim.Native.Nat.{ℕ, suc, _+_, _*_, _<_, _≤_, _^_}
+use Prim.Native.Nat.{ℕ, suc, _+_, _≤_}
 use lib.IntN.{ℤ, pos, negℤ, natAbs}
 use lib.ListN.{replicate}
 use Rattle.definition.specs.Word.{addressOf}
 use Rattle.definition.specs.Memory.{cell, putCell}
 use Rattle.definition.specs.Encoding.{sound, isAddress}
 use Rattle.definition.specs.Calls.{isBelow}
-
--- One decimal digit or more ("leading zeros allowed"), and the value.
-pub data Digits : List ℕ → ℕ → Type 0 where
-  one : {d : ℕ} → d < 10 → Digits ((48 + d) ∷ []) d
-  more : {s : List ℕ} {v d : ℕ} → Digits s v → d < 10 → Digits (s ++ ((48 + d) ∷ [])) (v * 10 + d)
+pub use Rattle.decimal.specs.Decimal.{Digits}
 
 -- "decimal digits after an optional minus, within 64 bits"
 pub data Numeral : List ℕ → ℤ → Type 0 where

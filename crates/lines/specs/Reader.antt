@@ -1,20 +1,18 @@
 -- The reader of the runner's lines, as a fold over the bytes of the text.
-use mathlib.Core.Bool.{Bool, true, false, cond, _&&_, _||_}
+use mathlib.Core.Bool.{true, false, cond, _&&_, _||_}
 use mathlib.Core.List.{List, [], _∷_, _++_, foldl}
-use Prim.Native.Nat.{ℕ, suc, _+_, _*_, _-_}
-use lib.IntN.{ℤ, pos, negℤ, natAbs}
+use Prim.Native.Nat.{ℕ, _+_, _*_, _-_}
+use lib.IntN.{ℤ, pos, natAbs}
 use lib.ListN.{getD, replicate}
 use lib.Dec.{ltb, leb, eqb}
-use mir.Syntax.{w64}
-use mir.Val.{toZ}
 use Rattle.definition.specs.declared.Cell.{Cell}
-use Rattle.definition.specs.Word.{wrap, addressOf}
+use Rattle.definition.specs.Word.{addressOf}
 use Rattle.definition.specs.Memory.{cell, putCell}
 use Rattle.definition.specs.Encoding.{sound, isAddress}
 use Rattle.definition.specs.Calls.{isBelow}
+unfoldable pub use Rattle.decimal.specs.Decimal.{valueOf}
+pub use Rattle.decimal.specs.Decimal.{limit}
 use Rattle.lines.specs.declared.Field.{Field}
-use Rattle.lines.specs.declared.Fields.{Fields}
-use Rattle.lines.specs.declared.Start.{Start}
 use Rattle.lines.specs.declared.Reader.{Reader}
 
 -- Nothing of a field yet.
@@ -47,16 +45,6 @@ openingByte r b =
     (eqb (letter (r .opening)) b)
     (record { line = r .line; broken = r .broken; opening = r .opening + 1; count = r .count; last = r .last; field = r .field; start = r .start })
     (broken r)
-
--- "within 64 bits": the largest magnitude of a number.
-abbrev pub limit : Bool → ℕ
-limit true = 9223372036854775808
-limit false = 9223372036854775807
-
--- The number of a sign and a magnitude within its limit; past it, wrapped at 64 bits, which no reader meets.
-unfoldable pub valueOf : Bool → ℕ → ℤ
-valueOf false m = toZ w64 m
-valueOf true m = wrap (negℤ (toZ w64 m))
 
 -- "decimal digits [...], leading zeros allowed": the digit d.
 unfoldable pub digit : Reader → ℕ → Reader

@@ -5,7 +5,7 @@ pub mod part;
 ghost use mathlib.Core.Path.{_≡_};
 ghost use Prim.Native.Nat.{_<_};
 ghost use lib.ListN.{length};
-ghost use Rattle.lines.specs.Reader.{opened, emptyCells, limit, valueOf, broken, withField, letter, openingByte, digit, comma, minus, within, brokenLine};
+ghost use Rattle.lines.specs.Reader.{opened, emptyCells, valueOf, broken, withField, letter, openingByte, digit, comma, minus, within, brokenLine};
 
 // The field that is being read: an optional minus and the digits so far.
 pub struct Field {
@@ -86,26 +86,10 @@ pub fn with_field(r: Reader, f: Field) -> Reader
     q
 }
 
-// "within 64 bits": the largest magnitude.
-pub fn limit_of(minus: bool) -> u64
-    ensures { λ n. ⌜ n ≡ limit minus ⌝ }
-{
-    if minus {
-        9223372036854775808
-    } else {
-        9223372036854775807
-    }
-}
-
 pub fn value_of(f: Field) -> i64
     ensures { λ w. ⌜ w ≡ valueOf (f .minus) (f .magnitude) ⌝ }
 {
-    let w = word::of_bits(f.magnitude);
-    if f.minus {
-        let n = word::neg(w);
-        return n.value;
-    }
-    w
+    decimal::value(f.minus, f.magnitude)
 }
 
 // The bytes of `start,`.
@@ -139,20 +123,16 @@ pub fn take_digit(r: Reader, d: u8) -> Reader
     ensures { λ q. ⌜ q ≡ digit r d ⌝ }
 {
     let f = r.field;
-    let m = f.magnitude;
-    if 922337203685477580 < m {
-        return break_line(r);
+    let v = decimal::grown(f.magnitude, d);
+    if decimal::is_within(f.minus, v) {
+        let g = Field {
+            minus: f.minus,
+            digits: true,
+            magnitude: v,
+        };
+        return with_field(r, g);
     }
-    let v = m * 10 + d as u64;
-    if limit_of(f.minus) < v {
-        return break_line(r);
-    }
-    let g = Field {
-        minus: f.minus,
-        digits: true,
-        magnitude: v,
-    };
-    with_field(r, g)
+    break_line(r)
 }
 
 pub fn take_comma(r: Reader) -> Reader

@@ -1,14 +1,10 @@
 -- Two lists are the same exactly where the definition's test says so. Assumes nothing.
 use mathlib.Core.Path.{_≡_, refl, sym, ap, ap₂, _∙_}
-use mathlib.Core.Bool.{Bool, true, false, not, true≢false, _&&_}
+use mathlib.Core.Bool.{Bool, true, false, true≢false, _&&_}
 use mathlib.Core.List.{List, [], _∷_}
-use Prim.Native.Nat.{ℕ, suc, _-_, _^_, _≤_, _<_}
-use native.Mathlib.Omega.{arith}
+use Prim.Native.Nat.{ℕ, _-_}
 use lib.Dec.{eqb}
-use lib.IntN.{ℤ, pos, negsuc, negℤ}
-use mir.Syntax.{w64}
-use mir.Val.{toZ}
-use mir.Facts.{toZ-neg}
+use lib.IntN.{ℤ, pos, negsuc}
 use borrow.Author.Tests.{eqb-true, eq-eqb}
 use Rattle.definition.specs.Word.{eqZ}
 use Rattle.recorded.specs.Compare.{sameBy}
@@ -54,8 +50,3 @@ words-whole (negsuc a) = eq-eqb a a refl
 
 pub bytes-whole : (x : ℕ) → eqb x x ≡ true
 bytes-whole x = eq-eqb x x refl
-
--- the word below 0 of this size
-pub below-zero : (m : ℕ) → 1 ≤ m → m ≤ 9223372036854775808 → toZ w64 (18446744073709551615 - (m - 1)) ≡ negℤ (pos m)
-below-zero (suc k) h l = let e : 18446744073709551615 - (suc k - 1) ≡ 2 ^ 64 - suc k = omega arith in
-    ap (toZ w64) e ∙ toZ-neg w64 k (omega arith)

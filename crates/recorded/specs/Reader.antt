@@ -1,9 +1,11 @@
 -- "Each line is five decimal numbers parted by commas and ended by a line feed": what each byte makes of what was read of a line. 44 is the
 -- comma, 45 the minus, 10 the line feed, 48 to 57 are the digits.
 use mathlib.Core.Bool.{Bool, true, false, cond, not, _&&_, _||_}
-use Prim.Native.Nat.{ℕ, _+_, _*_, _-_, _^_}
-use lib.IntN.{ℤ, pos, negℤ}
-use lib.Dec.{ltb, eqb}
+use Prim.Native.Nat.{ℕ, _+_, _-_}
+use lib.IntN.{ℤ, pos}
+use lib.Dec.{ltb, leb, eqb}
+use Rattle.decimal.specs.Decimal.{capStep, limit}
+use Rattle.decimal.specs.Decimal as D
 use Rattle.recorded.specs.declared.number.Number.{Number}
 use Rattle.recorded.specs.declared.number.Grown.{Grown}
 use Rattle.recorded.specs.declared.number.Grown.the-variants as G
@@ -25,27 +27,21 @@ number m n = record { minus = m; digits = true; size = n }
 unfoldable pub minusRead : Number → Grown
 minusRead n = cond (n .minus || n .digits) G.Not (G.Is (record { minus = true; digits = false; size = 0 }))
 
--- "digits [...] without leading zeros"; what is past 64 bits with one digit more is none.
+-- "digits [...] without leading zeros"
 unfoldable pub digitRead : Number → ℕ → Grown
-digitRead n d =
-    cond
-    (n .digits && eqb (n .size) 0)
-    G.Not
-    (cond (ltb 922337203685477580 (n .size)) G.Not (G.Is (number (n .minus) (n .size * 10 + d))))
+digitRead n d = cond (n .digits && eqb (n .size) 0) G.Not (G.Is (number (n .minus) (capStep (n .size) d)))
 
 unfoldable pub grown : Number → ℕ → Grown
 grown n b =
     cond (eqb b 45) (minusRead n) (cond (ltb b 48) G.Not (cond (ltb 57 b) G.Not (digitRead n (b - 48))))
 
 -- "within signed 64 bits", and 0 has no minus.
-unfoldable pub positiveOf : ℕ → Value
-positiveOf m = cond (ltb 9223372036854775807 m) Num.Not (Num.Is (pos m))
-
-unfoldable pub negativeOf : ℕ → Value
-negativeOf m = cond (ltb m 1) Num.Not (cond (ltb 9223372036854775808 m) Num.Not (Num.Is (negℤ (pos m))))
-
 unfoldable pub valueOf : Number → Value
-valueOf n = cond (n .digits) (cond (n .minus) (negativeOf (n .size)) (positiveOf (n .size))) Num.Not
+valueOf n =
+    cond
+    ((n .digits && leb (n .size) (limit (n .minus))) && not (n .minus && eqb (n .size) 0))
+    (Num.Is (D.valueOf (n .minus) (n .size)))
+    Num.Not
 
 abbrev pub line : ℤ → ℤ → ℤ → ℤ → ℤ → Line
 line k a b c d = record { kind = k; a = a; b = b; c = c; d = d }

@@ -1,7 +1,7 @@
 // A number: "digits after an optional minus, without leading zeros, within signed 64 bits"
 ghost use mathlib.Core.Path.{_≡_};
 ghost use Prim.Native.Nat.{_<_};
-ghost use Rattle.recorded.specs.Reader.{noNumber, minusRead, digitRead, grown, positiveOf, negativeOf, valueOf};
+ghost use Rattle.recorded.specs.Reader.{noNumber, minusRead, digitRead, grown, valueOf};
 
 // What was read of a number.
 pub struct Number {
@@ -50,13 +50,10 @@ fn take_digit(n: Number, d: u8) -> Grown
     if n.digits & (n.size == 0) {
         return Grown::Not;
     }
-    if 922337203685477580 < n.size {
-        return Grown::Not;
-    }
     Grown::Is(Number {
         minus: n.minus,
         digits: true,
-        size: n.size * 10 + d as u64,
+        size: decimal::grown(n.size, d),
     })
 }
 
@@ -76,37 +73,12 @@ pub fn grow(n: Number, byte: u8) -> Grown
     take_digit(n, byte - b'0')
 }
 
-fn positive(size: u64) -> Value
-    ensures { λ r. ⌜ r ≡ positiveOf size ⌝ }
-{
-    if 9223372036854775807 < size {
-        return Value::Not;
-    }
-    Value::Is(word::of_bits(size))
-}
-
-// The word below 0 has the bits 2^64 less its size.
-fn negative(size: u64) -> Value
-    ensures { λ r. ⌜ r ≡ negativeOf size ⌝ }
-{
-    if size < 1 {
-        return Value::Not;
-    }
-    if 9223372036854775808 < size {
-        return Value::Not;
-    }
-    Value::Is(word::of_bits(18446744073709551615 - (size - 1)))
-}
-
-// The value of a number that ends here.
+// The value of a number that ends here: 0 has no minus.
 pub fn value_of(n: Number) -> Value
     ensures { λ r. ⌜ r ≡ valueOf n ⌝ }
 {
-    if n.digits {
-        if n.minus {
-            return negative(n.size);
-        }
-        return positive(n.size);
+    if n.digits & decimal::is_within(n.minus, n.size) & !(n.minus & (n.size == 0)) {
+        return Value::Is(decimal::value(n.minus, n.size));
     }
     Value::Not
 }

@@ -133,12 +133,12 @@ decimal-short (suc k) n =
     (λ e h. rw e (omega arith))
     (λ e h. let a = decimal-short k (n / 10) in rw e (simp length-append (omega arith)))
 
-numeral-short : (v : ℤ) → length (numeral v) ≤ 21
+pub numeral-short : (v : ℤ) → length (numeral v) ≤ 21
 unfolding numeral
 numeral-short (pos n) = let a = decimal-short 20 n in omega arith
 numeral-short (negsuc n) = let a = decimal-short 20 (suc n) in omega arith
 
-fields-short : (vs : List ℤ) → length (fields vs) ≤ 22 * length vs
+pub fields-short : (vs : List ℤ) → length (fields vs) ≤ 22 * length vs
 unfolding fields
 fields-short [] = omega arith
 fields-short (v ∷ vs) =

@@ -1,30 +1,15 @@
-use borrow.Author.Tests.{lt-ltb, le-ltb}
-use Rattle.expression.specs.Code.{capStep}
 use borrow.Author.Needs.{needs}
 use Rattle.expression.proofs.grown.Statement.{statement}
 use Rattle.expression.proofs.grown.Tie as tie
-use Rattle.expression.proofs.grown.Reads as reads
-use Rattle.expression.proofs.grown.Lts as lts
+
+sub-grown : tie.Need-sub-grown
+sub-grown c = search needs
+
+grown-requires : tie.Need-grown-requires
+grown-requires c κs = search needs
 
 returns : tie.Need-returns
-unfolding capStep
-returns c = rw (lt-ltb 922337203685477580 _ (c .if1 .taken))
-
-mul-result : tie.Need-mul-result
-mul-result c = search needs
-
-sub-result : tie.Need-sub-result
-sub-result c = search needs
-
-cast-result : tie.Need-cast-result
-cast-result c = search needs
-
-add-result : tie.Need-add-result
-add-result c = search needs
-
-returns-2 : tie.Need-returns-2
-unfolding capStep
-returns-2 c = rw (le-ltb 922337203685477580 _ (c .if1 .left))
+returns c = c .grown .ensures
 
 pub grown-spec : {M : Type 1} → statement M
-grown-spec = tie.close (tie.spec returns mul-result sub-result cast-result add-result returns-2)
+grown-spec = tie.close (tie.spec sub-grown grown-requires returns)
