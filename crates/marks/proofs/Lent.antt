@@ -1,7 +1,6 @@
 -- What the walks of this crate share: how the marks behind a `&mut` are opened and closed, how a by-value function is asked, how a local is lent to a function in place and taken back,
 -- and how a walk is taken to its contract. What is left to a walk is its statements, and its locals made and freed.
 --     mach, is-mach, mach-of, typed    the marks' machine value. They are three bools, so what they own is had for nothing
---     status-fits                      what a read of the status gives is a byte
 --     arrives, leaves                  from what a function in place is entered with to the parts of its reference, and back to what it ends with
 --     opened, closed, Shut             the borrow is opened, and closed at other marks; what is then had of the reference
 --     bare, answers, asks              a by-value function is called: what it asks, that its `ensures` fixes what it answers, and the call
@@ -55,17 +54,6 @@ mach m = LL.tuple-val T.the-type T′.the-laws (T.the-type .to m)
 
 pub is-mach : (m : Marks) → Is T.the-row m (mach m ∷ [])
 is-mach m = LL.owes T.the-type T′.the-laws m (refl, (refl, (refl, tt)))
-
--- what a read of the status gives is a byte
-below : (a b : Bool) → 2 + cond a 1 0 + cond b 4 0 < 2 ^ 8
-below true true = omega arith
-below true false = omega arith
-below false true = omega arith
-below false false = omega arith
-
-pub status-fits : (ready : Bool) (m : Marks) → status ready m < 2 ^ 8
-unfolding status
-status-fits ready m = below ready (m .flag)
 
 -- marks that are z, in the machine
 pub mach-of : (z r : Marks) (w : Val) → Is T.the-row r (w ∷ []) → r ≡ z → w ≡ mach z

@@ -1,11 +1,12 @@
 // io.rs: the console's three marks, one record changed in place. `Marks` is definition's; enable, flag and pending are io.rs's
-// irq_on_ready, interrupt_flag and pending_irq. A change stands here three times: by value, where it is proved against the definition; in
-// place, a thin function over that one; and by value again for callers, which lends a local to the one in place.
+// irq_on_ready, interrupt_flag and pending_irq. Each change is a by-value function; `change_in` makes it in place, a thin function over these, and `after_change`
+// lends a local to it for callers.
 use definition::Marks;
 ghost use mathlib.Core.Path.{_≡_};
 ghost use mathlib.Core.Bool.{false, cond};
 ghost use Prim.Native.Nat.{_<_};
 ghost use Rattle.definition.specs.Io.{status, readStatus, writeControl, raiseInterrupt, delivered, with-pending};
+ghost use Rattle.marks.specs.Change.{changed};
 
 // SerialConsole::read_status: "2, plus 1 if bytes are queued, plus 4 if the interrupt flag is set"
 pub fn status(ready: bool, marks: Marks) -> u8
@@ -69,7 +70,7 @@ pub fn delivered(n: usize, marks: Marks) -> Marks
     ensures { λ r. ⌜ r ≡ delivered n marks ⌝ }
 {
     if (0 < n) & marks.enable {
-        interrupt_raised(marks)
+        raise_interrupt(marks)
     } else {
         marks
     }
@@ -86,43 +87,39 @@ pub fn taken(marks: Marks) -> Marks
     }
 }
 
-// SerialConsole::raise_interrupt, in place.
-pub fn raise_interrupt_in(m: &mut Marks)
-    ensures { λ _. ⌜ now (m .exit) ≡ raiseInterrupt (now (m .entry)) ⌝ }
-{
-    *m = raise_interrupt(*m);
+// What io.rs's methods do to the marks, with what they are passed.
+pub enum Change {
+    ReadStatus,
+    WriteControl(bool, i64),
+    PushInput(usize),
+    PollInterrupt,
 }
 
-// SerialConsole::read_status, in place: what it reads, and the flag cleared.
-pub fn read_status_in(m: &mut Marks, ready: bool) -> u8
-    ensures { λ r. ⌜ (r ≡ status ready (now (m .entry))) × (now (m .exit) ≡ readStatus (now (m .entry))) ⌝ }
+pub fn changed(c: Change, marks: Marks) -> Marks
+    ensures { λ r. ⌜ r ≡ changed c marks ⌝ }
 {
-    let value = status(ready, *m);
-    *m = read_status(*m);
-    value
+    match c {
+        Change::ReadStatus => read_status(marks),
+        Change::WriteControl(ready, w) => write_control(ready, w, marks),
+        Change::PushInput(n) => delivered(n, marks),
+        Change::PollInterrupt => taken(marks),
+    }
 }
 
-// SerialConsole::write_control, in place.
-pub fn write_control_in(m: &mut Marks, ready: bool, w: i64)
-    ensures { λ _. ⌜ now (m .exit) ≡ writeControl ready w (now (m .entry)) ⌝ }
+// The same, in place.
+pub fn change_in(m: &mut Marks, c: Change)
+    ensures { λ _. ⌜ now (m .exit) ≡ changed c (now (m .entry)) ⌝ }
 {
-    *m = write_control(ready, w, *m);
+    *m = changed(c, *m);
 }
 
-// SerialConsole::push_input's part in the marks, for n bytes.
-pub fn push_input_in(m: &mut Marks, n: usize)
-    ensures { λ _. ⌜ now (m .exit) ≡ delivered n (now (m .entry)) ⌝ }
+// For callers, by value: the marks are put into a local, which is lent and handed back.
+pub fn after_change(marks: Marks, c: Change) -> Marks
+    ensures { λ r. ⌜ r ≡ changed c marks ⌝ }
 {
-    *m = delivered(n, *m);
-}
-
-// SerialConsole::poll_interrupt, in place: was the pending mark set? It is taken.
-pub fn poll_in(m: &mut Marks) -> bool
-    ensures { λ r. ⌜ (r ≡ now (m .entry) .pending) × (now (m .exit) ≡ with-pending false (now (m .entry))) ⌝ }
-{
-    let was = m.pending;
-    *m = taken(*m);
-    was
+    let mut m = marks;
+    change_in(&mut m, c);
+    m
 }
 
 // What a read of port 110 gives, and the marks after it.
@@ -137,43 +134,35 @@ pub struct Polled {
     pub marks: Marks,
 }
 
-// For callers, by value: the marks are put into a local, which is lent and handed back.
-pub fn interrupt_raised(marks: Marks) -> Marks
-    ensures { λ r. ⌜ r ≡ raiseInterrupt marks ⌝ }
-{
-    let mut m = marks;
-    raise_interrupt_in(&mut m);
-    m
-}
-
 pub fn status_read(marks: Marks, ready: bool) -> StatusRead
     ensures { λ r. ⌜ (r .value ≡ status ready marks) × (r .marks ≡ readStatus marks) ⌝ }
 {
-    let mut m = marks;
-    let value = read_status_in(&mut m, ready);
-    StatusRead { value, marks: m }
+    let value = status(ready, marks);
+    let after = after_change(marks, Change::ReadStatus);
+    StatusRead {
+        value,
+        marks: after,
+    }
 }
 
 pub fn control_written(marks: Marks, ready: bool, w: i64) -> Marks
     ensures { λ r. ⌜ r ≡ writeControl ready w marks ⌝ }
 {
-    let mut m = marks;
-    write_control_in(&mut m, ready, w);
-    m
+    after_change(marks, Change::WriteControl(ready, w))
 }
 
 pub fn input_pushed(marks: Marks, n: usize) -> Marks
     ensures { λ r. ⌜ r ≡ delivered n marks ⌝ }
 {
-    let mut m = marks;
-    push_input_in(&mut m, n);
-    m
+    after_change(marks, Change::PushInput(n))
 }
 
 pub fn interrupt_polled(marks: Marks) -> Polled
     ensures { λ r. ⌜ (r .was ≡ marks .pending) × (r .marks ≡ with-pending false marks) ⌝ }
 {
-    let mut m = marks;
-    let was = poll_in(&mut m);
-    Polled { was, marks: m }
+    let after = after_change(marks, Change::PollInterrupt);
+    Polled {
+        was: marks.pending,
+        marks: after,
+    }
 }
