@@ -1,0 +1,1 @@
+// Listings: an image as text of the assembler, one line a cell.
