@@ -29,7 +29,7 @@ use Rattle.assembly.proofs.Cells.{one-reading}
 use Rattle.listing.specs.Listing.{lineText, listing, imageCells, isEmpty, anyEmpty}
 use Rattle.listing.specs.Call.{imageText, isImage, hasLeave, listCheck, inFront, listCall}
 use Rattle.listing.specs.Theorems.{allWords, keptAt, kept, numbersOf, listedBack, ListLaws}
-use Rattle.listing.proofs.Lines.{lineOf, line-reads, whole-of, line-of}
+use Rattle.listing.proofs.Readings.{lineOf, line-reads, whole-of, line-of}
 
 -- ---- cells in order
 
@@ -91,7 +91,7 @@ cells-good k (t ∷ f ∷ s ∷ l) h w =
 image-good : (image : List ℤ) → lowestDamaged 0 image ≡ cellCount image → allWords image ≡ true → Good (imageCells image)
 image-good image h w = cells-good 0 image (h ∙ omega arith) w
 
-count-cells : (image : List ℤ) → length (imageCells image) ≡ cellCount image
+pub count-cells : (image : List ℤ) → length (imageCells image) ≡ cellCount image
 unfolding imageCells
 count-cells [] = refl
 count-cells (t ∷ []) = refl

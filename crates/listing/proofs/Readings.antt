@@ -179,7 +179,7 @@ zero-number : (w : ℤ) → (eqZ w (pos 0) || false) ≡ true → w ≡ pos 0
 zero-number (pos n) h = ap pos (nothing-else n h)
 zero-number (negsuc n) h = clash h refl
 
-is-zero : (w : ℤ) → eqZ w (pos 0) ≡ true → w ≡ pos 0
+pub is-zero : (w : ℤ) → eqZ w (pos 0) ≡ true → w ≡ pos 0
 is-zero (pos n) h = ap pos (eqb-true n 0 h)
 is-zero (negsuc n) h = clash h refl
 
