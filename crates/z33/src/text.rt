@@ -13,8 +13,8 @@ pub extern "C" fn z33_assemble(text: &[u8], image: &mut [i64]) -> Counted
 }
 
 #[no_mangle]
-pub extern "C" fn z33_list(image: &[i64], text: &mut [u8], allow_empty: u64) -> Counted
-    ensures { λ r. ⌜ called r (now (text .exit)) ≡ listCall allow_empty (now (image .entry)) (now (text .entry)) ⌝ }
+pub extern "C" fn z33_list(image: &[i64], text: &mut [u8], leave: u64) -> Counted
+    ensures { λ r. ⌜ called r (now (text .exit)) ≡ listCall leave (now (image .entry)) (now (text .entry)) ⌝ }
 {
-    listing::list(image, text, allow_empty)
+    listing::list(image, text, leave)
 }
