@@ -7,6 +7,7 @@ use lib.IntN.{ℤ}
 use lib.ListN.{length}
 use lib.Dec.{leb, eqb}
 use borrow.Author.Tests.{leb-true, leb-false, eqb-true, le-leb, lt-leb}
+use Rattle.definition.specs.declared.Counted.{Counted}
 use Rattle.definition.specs.Memory.{cellCount}
 use Rattle.definition.specs.Calls.{called, verdict, lowestDamaged}
 use Rattle.assembly.specs.Assemble.{counted}
@@ -40,9 +41,12 @@ not-fitting n room f e h =
     (λ b. b)
 
 module _ (leave : ℕ) (image : List ℤ) (buffer : List ℕ) where
-  pub list-done : isImage image ≡ true → hasLeave leave image ≡ true → length (imageText image) ≤ length buffer → listCall leave image buffer ≡ called (counted 0 0 (length (imageText image))) (inFront (imageText image) buffer)
+  list-done : isImage image ≡ true → hasLeave leave image ≡ true → length (imageText image) ≤ length buffer → listCall leave image buffer ≡ called (counted 0 0 (length (imageText image))) (inFront (imageText image) buffer)
   unfolding listCall listCheck verdict
   list-done a b c = rw (a, b, le-leb (length (imageText image)) (length buffer) c) refl
+
+  pub list-answer : (r : Counted) (after : List ℕ) (n : ℕ) → r ≡ counted 0 0 n → n ≡ length (imageText image) → after ≡ inFront (imageText image) buffer → isImage image ≡ true → hasLeave leave image ≡ true → length (imageText image) ≤ length buffer → called r after ≡ listCall leave image buffer
+  list-answer r after n e f g a b c = rw (e, f, g) (sym (list-done a b c))
 
   pub list-17 : isImage image ≡ true → hasLeave leave image ≡ true → leb (length (imageText image)) (length buffer) ≡ false → listCall leave image buffer ≡ called (counted 17 0 0) buffer
   unfolding listCall listCheck verdict

@@ -3,7 +3,7 @@ use lib.ListN.{length}
 use Rattle.definition.specs.Calls.{called}
 use Rattle.assembly.specs.Assemble.{counted}
 use Rattle.listing.specs.Call.{imageText, inFront}
-use Rattle.listing.proofs.Answered.{image-undamaged, fitting, not-fitting, list-done, list-17, list-16, list-9}
+use Rattle.listing.proofs.Answered.{image-undamaged, fitting, not-fitting, list-answer, list-17, list-16, list-9}
 use borrow.Author.Needs.{needs}
 use Rattle.listing.proofs.list.Statement.{statement}
 use Rattle.listing.proofs.list.Tie as tie
@@ -45,7 +45,7 @@ returns : tie.Need-returns
 returns c = let a = c .before .before .before .before .before .before .before .before .before .before .before .before .args in
     let l = a .image .now in
     let f = fitting (length (imageText l)) (length (a .text .now)) (c .before .before .before .before .before .before .measure .result) (c .before .before .before .before .before .before .measure .ensures) (c .before .before .before .before .before .if3 .taken) in
-    rw (c .answer .ensures, f .bytes-are, c .before .before .before .write .ensures) (sym (list-done (a .leave) l (a .text .now) (sym (c .before .before .before .before .before .before .before .before .before .before .is-image .ensures) ∙ c .before .before .before .before .before .before .before .before .before .if1 .taken) (sym (c .before .before .before .before .before .before .before .before .has-leave .ensures) ∙ c .before .before .before .before .before .before .before .if2 .taken) (f .within)))
+    list-answer (a .leave) l (a .text .now) (c .answer .result) (c .before .before .before .write .last .1 .0) _ (c .answer .ensures) (f .bytes-are) (c .before .before .before .write .ensures) (sym (c .before .before .before .before .before .before .before .before .before .before .is-image .ensures) ∙ c .before .before .before .before .before .before .before .before .before .if1 .taken) (sym (c .before .before .before .before .before .before .before .before .has-leave .ensures) ∙ c .before .before .before .before .before .before .before .if2 .taken) (f .within)
 
 -- src/lib.rt:55:13
 answer-requires-2 : tie.Need-answer-requires-2
