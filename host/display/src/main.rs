@@ -35,5 +35,7 @@ fn main() {
         count += 1;
     }
     assert_eq!(forms.iter().filter(|seen| **seen).count(), LEGAL, "a form was not seen");
-    println!("display: {count} cells of all {LEGAL} forms: the listing's line is the Rust's own display, spaces folded");
+    println!(
+        "display: {count} cells of all {LEGAL} forms: the listing's line is the Rust's own display, spaces folded"
+    );
 }

@@ -69,7 +69,9 @@ fn arm(path: &str, name: &str, own: &Pattern, of_type: &Pattern) -> String {
     let pattern = own.text.as_deref().or(of_type.text.as_deref()).unwrap_or("{}").replace("{}", &name);
     let fields: Vec<usize> = (0..10).filter(|i| pattern.contains(&format!("{{{i}"))).collect();
     let bound: String = fields.iter().map(|i| format!("{i}: field{i}, ")).collect();
-    let written = fields.iter().fold(pattern.clone(), |text, i| text.replace(&format!("{{{i}"), &format!("{{field{i}")));
+    let written = fields
+        .iter()
+        .fold(pattern.clone(), |text, i| text.replace(&format!("{{{i}"), &format!("{{field{i}")));
     assert_eq!(written.matches('{').count(), fields.len(), "a pattern that is not understood: {pattern}");
     format!("{path} {{ {bound}.. }} => ::std::write!(f, {written:?}),")
 }
@@ -82,7 +84,9 @@ fn attributes(tokens: &mut Peekable<token_stream::IntoIter>) -> Pattern {
         let Some(TokenTree::Group(attribute)) = tokens.next() else { panic!("a # without an attribute") };
         let mut inside = attribute.stream().into_iter();
         if word(inside.next()) == "display" {
-            let Some(TokenTree::Group(arguments)) = inside.next() else { panic!("display without a pattern") };
+            let Some(TokenTree::Group(arguments)) = inside.next() else {
+                panic!("display without a pattern")
+            };
             found = pattern(arguments.stream().into_iter());
         }
     }
