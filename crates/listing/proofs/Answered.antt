@@ -1,12 +1,12 @@
 -- What the call answers, by the tests that it makes. Assumes nothing.
 use mathlib.Core.Path.{_≡_, refl, sym, ap, _∙_}
-use mathlib.Core.Bool.{Bool, true, false, cond, _&&_, true≢false, false≢true}
-use mathlib.Core.List.{List, [], _∷_, _++_}
-use Prim.Native.Nat.{ℕ, zero, suc, _%_, _≤_, _<_}
+use mathlib.Core.Bool.{true, false}
+use mathlib.Core.List.{List}
+use Prim.Native.Nat.{ℕ, _%_, _≤_}
 use lib.IntN.{ℤ}
 use lib.ListN.{length}
 use lib.Dec.{leb, eqb}
-use borrow.Author.Tests.{leb-true, leb-false, eqb-true, le-leb, lt-leb}
+use borrow.Author.Tests.{leb-true, eqb-true, le-leb}
 use Rattle.definition.specs.declared.Counted.{Counted}
 use Rattle.definition.specs.Memory.{cellCount}
 use Rattle.definition.specs.Calls.{called, verdict, lowestDamaged}

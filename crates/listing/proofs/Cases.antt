@@ -1,8 +1,7 @@
 -- Images and their texts, computed. Assumes nothing.
 use mathlib.Core.Path.{_≡_, refl}
-use mathlib.Core.List.{List, [], _∷_}
-use Prim.Native.Nat.{ℕ}
-use lib.IntN.{ℤ, pos, negsuc}
+use mathlib.Core.List.{[], _∷_}
+use lib.IntN.{pos, negsuc}
 use lib.ListN.{replicate}
 use Rattle.definition.specs.Word.{addressOf}
 use Rattle.definition.specs.Encoding.{opAt, allows, signature, legal, isAddress, registerFits, numberFits, soundInstruction, soundAt, sound}

@@ -1,24 +1,21 @@
 -- An image gone through cell by cell. Assumes nothing.
 use mathlib.Core.Path.{_≡_, refl, sym, ap, _∙_}
-use mathlib.Core.Bool.{Bool, true, false, cond, _||_}
+use mathlib.Core.Bool.{true, false}
 use mathlib.Core.List.{List, [], _∷_, _++_, append-nil}
 use Prim.Native.Nat.{ℕ, zero, suc, _+_, _-_, _*_, _/_, _≤_, _<_}
 use native.Mathlib.Omega.{arith}
 use native.Mathlib.Numerals.{add-one}
 use lib.IntN.{ℤ, pos}
 use lib.ListN.{length, getD, take, drop, length-append, take-append-drop, drop-of-length-le}
-use lib.Dec.{leb, eqb}
 use borrow.Author.Tests.{le-leb, lt-leb}
-use Rattle.definition.specs.declared.Cell.{Cell}
 use Rattle.definition.specs.Word.{eqZ}
-use Rattle.definition.specs.Memory.{cell, cellCount, cellAt}
+use Rattle.definition.specs.Memory.{cellCount, cellAt}
 use Rattle.definition.specs.Encoding.{sound}
 use Rattle.definition.specs.Calls.{lowestDamaged}
 use Rattle.encoding.proofs.Sound.{damaged-later, damaged-here}
 use Rattle.decimal.proofs.Laws.{put-next, kept-then}
-use Rattle.expression.proofs.Spans.{by-bool, clash}
-use Rattle.listing.specs.declared.lines.Fit.{Fit}
-use Rattle.listing.specs.Listing.{lineText, listing, imageCells, isEmpty, anyEmpty}
+use Rattle.expression.proofs.Spans.{by-bool}
+use Rattle.listing.specs.Listing.{lineText, listing, imageCells, anyEmpty}
 use Rattle.listing.specs.Call.{imageText, inFront}
 use Rattle.listing.specs.Pieces.{fitted}
 use Rattle.listing.proofs.RoundTrip.{count-cells}

@@ -1,27 +1,26 @@
 -- How a line is put together, and that its pieces are short. Assumes nothing.
 use mathlib.Core.Path.{_≡_, refl, sym, ap, _∙_}
-use mathlib.Core.Bool.{Bool, true, false, cond, _&&_, true≢false, false≢true}
+use mathlib.Core.Bool.{Bool, true, false, _&&_, true≢false}
 use mathlib.Core.List.{List, [], _∷_, _++_, append-assoc, append-nil, map}
-use Prim.Native.Nat.{ℕ, zero, suc, _+_, _-_, _*_, _/_, _%_, _^_, _≤_, _<_}
+use Prim.Native.Nat.{ℕ, zero, suc, _+_, _-_, _/_, _%_, _^_, _≤_, _<_}
 use native.Mathlib.Omega.{arith}
 use native.Mathlib.Nat.{pow-zero, pow-suc}
 use lib.IntN.{ℤ, pos, negsuc, natAbs}
 use lib.Signed.{ltZ}
 use lib.ListN.{length, take, getD, length-append}
 use lib.Dec.{ltb, eqb}
-use borrow.Author.Tests.{ltb-true, ltb-false, eqb-true, eq-eqb, ne-eqb}
-use Rattle.definition.specs.declared.Cell.{Cell}
+use borrow.Author.Tests.{ltb-true, eq-eqb, ne-eqb}
 use Rattle.definition.specs.Word.{eqZ}
-use Rattle.definition.specs.Encoding.{opNumber, mode₁, mode₂, reg₁, reg₂, sound, soundAt}
-use Rattle.decimal.specs.Decimal.{decimal, numeral}
+use Rattle.definition.specs.Encoding.{opNumber, mode₁, mode₂, reg₁, reg₂, soundAt}
+use Rattle.decimal.specs.Decimal.{numeral}
 use Rattle.decimal.proofs.Laws.{put-next, decimal-short, numeral-short}
 use Rattle.expression.proofs.Spans.{by-bool, clash}
 use Rattle.expression.proofs.Sound.{both}
 use Rattle.encoding.proofs.Sound.{Code, code, far}
-use Rattle.assembly.specs.Grammar.{mnemonics, registers, dotWord}
-use Rattle.listing.specs.Listing.{indexText, registerText, operandText, operandsText, wordText, codeText, contentText, lineText}
+use Rattle.assembly.specs.Grammar.{mnemonics, registers}
+use Rattle.listing.specs.Listing.{indexText, registerText, operandText, operandsText, wordText, codeText, contentText}
 use Rattle.listing.specs.Names.{spelled, spelling, mnemonicNumbers, registerNumbers}
-use Rattle.listing.specs.Pieces.{innerText, operandsAt, cellText}
+use Rattle.listing.specs.Pieces.{innerText, operandsAt}
 use Rattle.listing.proofs.Readings.{is-zero}
 
 -- ---- names

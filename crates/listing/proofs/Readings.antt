@@ -1,14 +1,14 @@
 -- A sound cell's line is a line of the grammar, and its reading makes that cell. Assumes nothing.
-use mathlib.Core.Path.{_≡_, refl, sym, ap, _∙_, subst}
-use mathlib.Core.Bool.{Bool, true, false, cond, not, _&&_, _||_}
+use mathlib.Core.Path.{_≡_, refl, sym, ap, subst}
+use mathlib.Core.Bool.{true, false, not, _&&_, _||_}
 use mathlib.Core.List.{List, [], _∷_, _++_, append-nil}
-use mathlib.Core.Option.{Option, some, none}
+use mathlib.Core.Option.{Option, none}
 use Prim.Native.Nat.{ℕ, zero, suc, _+_, _*_, _≤_, _<_, _/_, _%_, _^_}
 use native.Mathlib.Omega.{arith}
 use native.Mathlib.Nat.{pow-suc}
 use lib.IntN.{ℤ, pos, negsuc}
-use lib.ListN.{length, getD}
-use lib.Dec.{leb, ltb, eqb}
+use lib.ListN.{getD}
+use lib.Dec.{eqb}
 use borrow.Author.Tests.{ltb-true, eqb-true, lt-ltb}
 use Rattle.definition.specs.declared.Cell.{Cell}
 use Rattle.definition.specs.Word.{isWord, eqZ, addressOf}
@@ -17,18 +17,17 @@ use Rattle.definition.specs.Encoding.{legal, signature, opAt, allows, opNumber,
 use Rattle.definition.proofs.Encoding.{tag-laws}
 use Rattle.word.proofs.Laws.{ltb-elim}
 use Rattle.decimal.specs.Decimal.{decimalIn, decimal, numeral}
-use Rattle.expression.specs.declared.Value.{Value}
-use Rattle.expression.specs.Grammar.{Expr, Number, Gap, Digits, Part, sum, product, atom, Reads}
+use Rattle.expression.specs.Grammar.{Expr, Number, Digits, sum, atom, Reads}
 use Rattle.expression.specs.Grammar as EG
 use Rattle.expression.specs.Values.{valued, numberValue, eval}
 use Rattle.expression.proofs.Spans.{by-bool, clash}
 use Rattle.expression.proofs.Sound.{both}
-use Rattle.assembly.specs.Grammar.{Arg, None, Imm, Reg, Dir, Ind, Idx, mode, Body, Word, Code, Line, line, mnemonics, registers, dotWord, Named, named, Mark, mark, Register, register, Index, Operand, Content, Row}
+use Rattle.assembly.specs.Grammar.{Arg, None, Imm, Reg, Dir, Ind, Idx, mode, Body, Word, Code, Line, line, mnemonics, registers, named, mark, Register, register, Index, Operand, Content, Row}
 use Rattle.assembly.specs.Grammar as G
-use Rattle.assembly.specs.Assemble.{argOf, bodyOf, lineValues, lineCell, argMisses, misses, argExceeds, exceeds, argRegister, argNumber, bodyCell}
+use Rattle.assembly.specs.Assemble.{argOf, bodyOf, argMisses, misses, argExceeds, exceeds, argRegister, argNumber, bodyCell}
 use Rattle.assembly.proofs.Names.{all, all-at, legal-below}
-use Rattle.listing.specs.Listing.{indexText, registerText, operandText, operandsText, wordText, codeText, contentText, lineText}
-use Rattle.listing.specs.Theorems.{keptAt, kept, LineOf}
+use Rattle.listing.specs.Listing.{indexText, registerText, operandText, operandsText, codeText, contentText, lineText}
+use Rattle.listing.specs.Theorems.{keptAt, LineOf}
 
 -- ---- numbers
 

@@ -1,24 +1,23 @@
 -- What Theorems states: a listing is a text of the grammar, and assembling it gives the cells back. Assumes nothing.
-use mathlib.Core.Path.{_≡_, refl, sym, ap, _∙_, subst}
+use mathlib.Core.Path.{_≡_, refl, sym, ap, _∙_}
 use mathlib.Core.Logic.{_≢_}
-use mathlib.Core.Bool.{Bool, true, false, cond, not, _&&_, _||_}
-use mathlib.Core.List.{List, [], _∷_, _++_, map}
-use mathlib.Core.Option.{Option, some, none}
-use Prim.Native.Nat.{ℕ, zero, suc, _+_, _*_, _≤_, _<_, _/_, _%_}
+use mathlib.Core.Bool.{Bool, true, false, _&&_, _||_}
+use mathlib.Core.List.{List, [], _∷_, map}
+use mathlib.Core.Option.{Option, none}
+use Prim.Native.Nat.{ℕ, zero, suc, _+_, _*_, _/_, _%_}
 use native.Mathlib.Omega.{arith}
 use lib.IntN.{ℤ, pos, negsuc}
-use lib.ListN.{length, getD, set, take, drop}
+use lib.ListN.{length, drop}
 use lib.Seq.{take-append-seam, drop-append-seam}
-use lib.Dec.{leb, ltb, eqb}
+use lib.Dec.{leb, eqb}
 use borrow.Author.Tests.{eqb-true, eq-eqb}
 use Rattle.definition.specs.declared.Cell.{Cell}
 use Rattle.definition.specs.declared.Counted.{Counted}
 use Rattle.definition.specs.Word.{isWord, eqZ}
-use Rattle.definition.specs.Memory.{cell, word, cellCount, putCell}
+use Rattle.definition.specs.Memory.{cell, cellCount, putCell}
 use Rattle.definition.specs.Encoding.{sound}
-use Rattle.definition.specs.Calls.{Called, called, test, verdict, passes, done, accepted, lowestDamaged}
+use Rattle.definition.specs.Calls.{Called, called, verdict, passes, lowestDamaged}
 use Rattle.expression.specs.Grammar.{Expr}
-use Rattle.expression.specs.Reader.{trees}
 use Rattle.expression.proofs.Spans.{by-bool, clash}
 use Rattle.expression.proofs.Sound.{both}
 use Rattle.assembly.specs.Grammar.{Line, Rows}
@@ -26,7 +25,7 @@ use Rattle.assembly.specs.Grammar as G
 use Rattle.assembly.specs.Assemble.{placeIn, labelsOf, lineValues, lineCell, labelWrong, lowest, wrongLabels, wrongValues, cells, otherwise, judged, assembled, assemble, counted, putCells, answered, assembleCall}
 use Rattle.assembly.proofs.Complete.{rows-complete}
 use Rattle.assembly.proofs.Cells.{one-reading}
-use Rattle.listing.specs.Listing.{lineText, listing, imageCells, isEmpty, anyEmpty}
+use Rattle.listing.specs.Listing.{listing, imageCells, isEmpty, anyEmpty}
 use Rattle.listing.specs.Call.{imageText, isImage, hasLeave, listCheck, inFront, listCall}
 use Rattle.listing.specs.Theorems.{allWords, keptAt, kept, numbersOf, listedBack, ListLaws}
 use Rattle.listing.proofs.Readings.{lineOf, line-reads, whole-of, line-of}

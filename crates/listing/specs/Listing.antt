@@ -1,14 +1,14 @@
 -- A cell as a line of Card 1: "one line a cell, without labels, numbers in shortest decimal (index 0 as +0), one space after a comma and after a
 -- mnemonic or `.word` with operands, no other". 10 is a line end, 32 a space, 37 `%`, 43 a plus, 44 a comma, 45 a minus, 91 and 93 are the
 -- square brackets.
-use mathlib.Core.Bool.{Bool, true, false, _||_}
+use mathlib.Core.Bool.{Bool, false, _||_}
 use mathlib.Core.List.{List, [], _∷_, _++_}
 use Prim.Native.Nat.{ℕ, zero, suc}
 use lib.IntN.{ℤ, pos, negsuc}
 use lib.ListN.{getD}
 use Rattle.definition.specs.declared.Cell.{Cell}
 use Rattle.definition.specs.Word.{eqZ}
-use Rattle.definition.specs.Memory.{cell, word}
+use Rattle.definition.specs.Memory.{cell}
 use Rattle.definition.specs.Encoding.{opNumber, mode₁, mode₂, reg₁, reg₂}
 use Rattle.decimal.specs.Decimal.{decimal, numeral}
 use Rattle.assembly.specs.Grammar.{mnemonics, registers, dotWord}

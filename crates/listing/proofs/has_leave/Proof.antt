@@ -4,20 +4,14 @@ use Rattle.listing.specs.Call.{hasLeave}
 use borrow.Author.Needs.{needs}
 use Rattle.listing.proofs.has_leave.Statement.{statement}
 use Rattle.listing.proofs.has_leave.Tie as tie
-use Rattle.listing.proofs.has_leave.Reads as reads
-use Rattle.listing.proofs.has_leave.Lts as lts
-use Rattle.listing.proofs.lines.any_empty.Reads as any-empty-reads
 
--- src/lib.rt:29:17
 any-empty-requires : tie.Need-any-empty-requires
 any-empty-requires c κs = search needs
 
--- src/lib.rt:29:9
 returns : tie.Need-returns
 unfolding hasLeave
 returns c = rw (eq-eqb (c .before .before .args .leave) 0 (c .before .if1 .taken), c .any-empty .ensures) refl
 
--- src/lib.rt:25:1
 returns-2 : tie.Need-returns-2
 unfolding hasLeave
 returns-2 c = rw (ne-eqb (c .before .args .leave) 0 (c .if1 .left)) refl

@@ -6,20 +6,14 @@ use Rattle.listing.specs.Call.{isImage}
 use borrow.Author.Needs.{needs}
 use Rattle.listing.proofs.is_image.Statement.{statement}
 use Rattle.listing.proofs.is_image.Tie as tie
-use Rattle.listing.proofs.is_image.Reads as reads
-use Rattle.listing.proofs.is_image.Lts as lts
-use Rattle.encoding.proofs.lowest_damaged.Reads as lowest-damaged-reads
 
--- src/lib.rt:19:16
 lowest-damaged-requires : tie.Need-lowest-damaged-requires
 lowest-damaged-requires c κs = search needs
 
--- src/lib.rt:19:9
 returns : tie.Need-returns
 unfolding isImage
 returns c = rw (eq-eqb (length (c .before .before .args .image .now) % 3) 0 (c .before .if1 .taken), c .lowest-damaged .ensures) refl
 
--- src/lib.rt:15:1
 returns-2 : tie.Need-returns-2
 unfolding isImage
 returns-2 c = rw (ne-eqb (length (c .before .args .image .now) % 3) 0 (c .if1 .left)) refl

@@ -1,6 +1,6 @@
 use mathlib.Core.List.{[], _∷_}
 use native.Mathlib.Omega.{arith}
-use lib.ListN.{length, take}
+use lib.ListN.{take}
 use mir.Facts.{toZ-ofZ}
 use Rattle.decimal.specs.Decimal.{numeral}
 use Rattle.decimal.proofs.Laws.{put-then}

@@ -1,8 +1,7 @@
 use mathlib.Core.Path.{ap, _∙_}
-use mathlib.Core.List.{[], _∷_}
-use Prim.Native.Nat.{_/_}
+use mathlib.Core.List.{[]}
 use native.Mathlib.Omega.{arith}
-use lib.ListN.{take, getD, length-append}
+use lib.ListN.{getD, length-append}
 use mir.Facts.{toZ-ofZ}
 use Rattle.decimal.proofs.Laws.{put-then}
 use Rattle.definition.specs.Encoding.{opNumber}
@@ -14,31 +13,21 @@ use Rattle.listing.proofs.Pieces.{mnemonic-is, mnemonic-small, mnemonic
 use borrow.Author.Needs.{needs}
 use Rattle.listing.proofs.line.put_code.Statement.{statement}
 use Rattle.listing.proofs.line.put_code.Tie as tie
-use Rattle.listing.proofs.line.put_code.Reads as reads
-use Rattle.listing.proofs.line.put_code.Lts as lts
-use Rattle.listing.proofs.line.put_operands.Reads as put-operands-reads
-use Rattle.listing.proofs.names.mnemonic.Reads as mnemonic-reads
-use Rattle.listing.proofs.names.put_name.Reads as put-name-reads
 
--- src/line.rt:51:44
 mnemonic-requires : tie.Need-mnemonic-requires
 mnemonic-requires c κs = search needs
 
--- src/line.rt:51:9
 put-name-requires : tie.Need-put-name-requires
 put-name-requires c κs = (omega arith, rw (c .mnemonic .ensures) (mnemonic-small (opNumber (c .before .before .before .args .t))))
 
--- src/line.rt:52:5
 put-operands-requires : tie.Need-put-operands-requires
 put-operands-requires c κs = let o = opNumber (c .before .before .before .before .before .before .before .args .t) in
     let e = rw (ap spelling (c .before .before .before .before .mnemonic .ensures) ∙ mnemonic-is o) at (c .before .before .before .put-name .ensures .1) in
     (omega (arith, e, mnemonic-short o), omega arith)
 
--- src/line.rt:46:1
 same-length : tie.Need-same-length
 same-length c = search needs
 
--- src/line.rt:46:1
 returns : tie.Need-returns
 unfolding codeText
 returns c = let a = c .before .before .before .before .before .before .before .before .before .before .args in

@@ -1,4 +1,3 @@
-use mathlib.Core.Path.{_∙_}
 use native.Mathlib.Omega.{arith}
 use Rattle.definition.specs.Encoding.{sound}
 use Rattle.word.proofs.Laws.{back}
@@ -6,20 +5,13 @@ use Rattle.listing.proofs.Pieces.{plain-text, code-text, code-tag}
 use borrow.Author.Needs.{needs}
 use Rattle.listing.proofs.line.put_content.Statement.{statement}
 use Rattle.listing.proofs.line.put_content.Tie as tie
-use Rattle.listing.proofs.line.put_content.Reads as reads
-use Rattle.listing.proofs.line.put_content.Lts as lts
-use Rattle.listing.proofs.line.put_code.Reads as put-code-reads
-use Rattle.listing.proofs.line.put_word.Reads as put-word-reads
 
--- src/line.rt:65:9
 put-word-requires : tie.Need-put-word-requires
 put-word-requires c κs = search needs
 
--- src/line.rt:65:9
 same-length : tie.Need-same-length
 same-length c = search needs
 
--- src/line.rt:65:9
 returns : tie.Need-returns
 unfolding sound
 returns c = let v = c .before .before .before .before .before .before .before .before .before .args .v in
@@ -27,32 +19,27 @@ returns c = let v = c .before .before .before .before .before .before .before .b
     let b = back (v .tag) (g .0 .1) in
     rw (plain-text (v .tag) (v .first) (v .second) (c .before .before .before .before .before .before .before .before .before .pre .0) (rw b at (c .before .before .before .before .if1 .taken))) (rw (back (v .first) (g .1 .0 .1)) at (c .before .before .put-word .ensures))
 
--- src/line.rt:67:20
 cast-put-code : tie.Need-cast-put-code
 unfolding sound
 cast-put-code c = let v = c .before .before .before .before .before .before .args .v in
     let b = back (v .tag) (c .before .before .before .before .struct-told .given .0 .1) in
     rw b (code-tag (v .tag) (v .first) (v .second) (c .before .before .before .before .before .before .pre .0) (rw b at (c .before .if1 .left)) .whole)
 
--- src/line.rt:67:19
 sub-put-code : tie.Need-sub-put-code
 unfolding sound
 sub-put-code c = let v = c .before .before .before .before .before .before .args .v in
     let b = back (v .tag) (c .before .before .before .before .struct-told .given .0 .1) in
     rw b (code-tag (v .tag) (v .first) (v .second) (c .before .before .before .before .before .before .pre .0) (rw b at (c .before .if1 .left)) .least)
 
--- src/line.rt:67:5
 put-code-requires : tie.Need-put-code-requires
 unfolding sound
 put-code-requires c κs = let v = c .before .before .before .before .before .before .args .v in
     let b = back (v .tag) (c .before .before .before .before .struct-told .given .0 .1) in
     (rw b (code-tag (v .tag) (v .first) (v .second) (c .before .before .before .before .before .before .pre .0) (rw b at (c .before .if1 .left)) .most), omega arith)
 
--- src/line.rt:56:1
 same-length-2 : tie.Need-same-length-2
 same-length-2 c = search needs
 
--- src/line.rt:56:1
 returns-2 : tie.Need-returns-2
 returns-2 c = let v = c .before .before .before .before .before .before .before .before .before .args .v in
     let g = c .before .before .before .before .before .before .before .struct-told .given in

@@ -9,24 +9,16 @@ use Rattle.listing.proofs.Pieces.{content-short}
 use borrow.Author.Needs.{needs}
 use Rattle.listing.proofs.line.put_line.Statement.{statement}
 use Rattle.listing.proofs.line.put_line.Tie as tie
-use Rattle.listing.proofs.line.put_line.Reads as reads
-use Rattle.listing.proofs.line.put_line.Lts as lts
-use Rattle.decimal.proofs.put_byte.Reads as put-byte-reads
-use Rattle.listing.proofs.line.put_content.Reads as put-content-reads
 
--- src/line.rt:75:9
 put-content-requires : tie.Need-put-content-requires
 put-content-requires c κs = search needs
 
--- src/line.rt:76:5
 put-byte-requires : tie.Need-put-byte-requires
 put-byte-requires c κs = let v = c .before .before .before .before .before .before .args .v in omega (arith, c .before .before .before .put-content .ensures .1, content-short (v .tag) (v .first) (v .second))
 
--- src/line.rt:70:1
 same-length : tie.Need-same-length
 same-length c = search needs
 
--- src/line.rt:70:1
 returns : tie.Need-returns
 unfolding lineText
 returns c = let v = c .before .before .before .before .before .before .before .before .before .args .v in

@@ -1,6 +1,5 @@
 use mathlib.Core.Path.{sym}
 use mathlib.Core.List.{[], _∷_, _++_, append-nil}
-use Prim.Native.Nat.{_/_, _%_}
 use native.Mathlib.Omega.{arith}
 use lib.ListN.{take, length-append}
 use mir.Facts.{toZ-ofZ}
@@ -11,56 +10,41 @@ use Rattle.listing.proofs.Pieces.{operand-short, operands-none, operand
 use borrow.Author.Needs.{needs}
 use Rattle.listing.proofs.line.put_operands.Statement.{statement}
 use Rattle.listing.proofs.line.put_operands.Tie as tie
-use Rattle.listing.proofs.line.put_operands.Reads as reads
-use Rattle.listing.proofs.line.put_operands.Lts as lts
-use Rattle.decimal.proofs.put.Reads as put-reads
-use Rattle.decimal.proofs.put_byte.Reads as put-byte-reads
-use Rattle.listing.proofs.operand.put_operand.Reads as put-operand-reads
 
--- src/line.rt:35:9
 returns : tie.Need-returns
 returns c = let a = c .before .before .args in rw (operands-none (a .t) (a .first) (a .second) (c .if1 .taken)) (sym (append-nil (take (a .at) (a .out .now))), omega arith)
 
--- src/line.rt:37:9
 put-byte-requires : tie.Need-put-byte-requires
 put-byte-requires c κs = search needs
 
--- src/line.rt:38:9
 put-operand-requires : tie.Need-put-operand-requires
 put-operand-requires c κs = search needs
 
--- src/line.rt:40:9
 same-length : tie.Need-same-length
 same-length c = search needs
 
--- src/line.rt:40:9
 returns-2 : tie.Need-returns-2
 returns-2 c = let a = c .before .before .before .before .before .before .before .before .before .before .before .args in
     let e = rw (toZ-ofZ (c .before .before .before .before .before .before .before .before .before .before .before .fits .first)) at (c .before .before .before .put-operand .ensures) in
     rw (operands-one (a .t) (a .first) (a .second) (c .before .before .before .before .before .before .before .before .before .if1 .left) (c .if2 .taken)) (put-then (take (a .at) (a .out .now)) (32 ∷ []) (operandText (mode₁ (a .t)) (reg₁ (a .t)) (a .first)) (c .before .before .before .before .before .before .before .put-byte .ensures .0) (e .0), omega (arith, e .1))
 
--- src/line.rt:42:25
 slice-aggregate-put : tie.Need-slice-aggregate-put
 slice-aggregate-put c = search needs
 
--- src/line.rt:42:9
 put-requires : tie.Need-put-requires
 put-requires c κs = let a = c .before .before .before .before .before .before .before .before .before .before .before .before .before .args in
     let e = rw (toZ-ofZ (c .before .before .before .before .before .before .before .before .before .before .before .before .before .fits .first)) at (c .before .before .before .before .before .put-operand .ensures) in
     omega (arith, e .1, operand-short (mode₁ (a .t)) (reg₁ (a .t)) (a .first))
 
--- src/line.rt:43:5
 put-operand-requires-2 : tie.Need-put-operand-requires-2
 put-operand-requires-2 c κs = let a = c .before .before .before .before .before .before .before .before .before .before .before .before .before .before .before .before .before .args in
     let e = rw (toZ-ofZ (c .before .before .before .before .before .before .before .before .before .before .before .before .before .before .before .before .before .fits .first)) at (c .before .before .before .before .before .before .before .before .before .put-operand .ensures) in
     let z = c .before .before .before .before .before .before .if2 .left in
     (omega (arith, e .1, operand-short (mode₁ (a .t)) (reg₁ (a .t)) (a .first)), omega arith, omega arith)
 
--- src/line.rt:27:1
 same-length-2 : tie.Need-same-length-2
 same-length-2 c = search needs
 
--- src/line.rt:27:1
 returns-3 : tie.Need-returns-3
 returns-3 c = let a = c .before .before .before .before .before .before .before .before .before .before .before .before .before .before .before .before .before .before .before .before .args in
     let e = rw (toZ-ofZ (c .before .before .before .before .before .before .before .before .before .before .before .before .before .before .before .before .before .before .before .before .fits .first)) at (c .before .before .before .before .before .before .before .before .before .before .before .before .put-operand .ensures) in

@@ -6,28 +6,19 @@ use Rattle.decimal.proofs.Laws.{put-then, numeral-short}
 use borrow.Author.Needs.{needs}
 use Rattle.listing.proofs.line.put_word.Statement.{statement}
 use Rattle.listing.proofs.line.put_word.Tie as tie
-use Rattle.listing.proofs.line.put_word.Reads as reads
-use Rattle.listing.proofs.line.put_word.Lts as lts
-use Rattle.decimal.proofs.put.Reads as put-reads
-use Rattle.decimal.proofs.put_numeral.Reads as put-numeral-reads
 
--- src/line.rt:22:25
 slice-aggregate-put : tie.Need-slice-aggregate-put
 slice-aggregate-put c = search needs
 
--- src/line.rt:22:9
 put-requires : tie.Need-put-requires
 put-requires c κs = search needs
 
--- src/line.rt:23:5
 put-numeral-requires : tie.Need-put-numeral-requires
 put-numeral-requires c κs = rw (toZ-ofZ (c .before .before .before .before .before .before .before .fits .w)) (omega (arith, numeral-short (c .before .before .before .before .before .before .before .args .w)))
 
--- src/line.rt:17:1
 same-length : tie.Need-same-length
 same-length c = search needs
 
--- src/line.rt:17:1
 returns : tie.Need-returns
 returns c = let a = c .before .before .before .before .before .before .before .before .before .before .args in
     let e = rw (toZ-ofZ (c .before .before .before .before .before .before .before .before .before .before .fits .w)) at (c .before .before .put-numeral .ensures) in

@@ -2,16 +2,13 @@ use mathlib.Core.Path.{_≡_, refl, sym, _∙_}
 use Prim.Native.Nat.{_*_, _-_, _≤_}
 use native.Mathlib.Omega.{arith}
 use lib.IntN.{pos}
-use lib.ListN.{length, getD, drop}
+use lib.ListN.{getD, drop}
 use borrow.Author.Needs.{needs}
 use Rattle.word.proofs.Laws.{back}
 use Rattle.listing.specs.Listing.{imageCells, anyEmpty}
 use Rattle.listing.proofs.Cells.{empty-here, empty-next, empty-none}
 use Rattle.listing.proofs.lines.any_empty.Statement.{statement}
 use Rattle.listing.proofs.lines.any_empty.Tie as tie
-use Rattle.listing.proofs.lines.any_empty.Reads as reads
-use Rattle.listing.proofs.lines.any_empty.Lts as lts
-use Rattle.word.proofs.eq.Reads as eq-reads
 
 abbrev Inv-loop : tie.InvT-loop
 Inv-loop image count n₀ n = (n ≤ count) × (anyEmpty (drop n (imageCells image)) ≡ anyEmpty (imageCells image))
@@ -19,49 +16,39 @@ Inv-loop image count n₀ n = (n ≤ count) × (anyEmpty (drop n (imageCells ima
 abbrev μ-loop : tie.MeasureT-loop
 μ-loop image count n₀ n = count - n
 
--- src/lines.rt:23:5
 loop-holds : tie.Need-loop-holds Inv-loop μ-loop
 loop-holds c = (search needs, refl)
 
--- src/lines.rt:24:23
 mul-t : tie.Need-mul-t Inv-loop μ-loop
 mul-t c = search needs
 
--- src/lines.rt:24:17
 mul-t-2 : tie.Need-mul-t-2 Inv-loop μ-loop
 mul-t-2 c = search needs
 
--- src/lines.rt:24:17
 shared-slice-copy-out-t : tie.Need-shared-slice-copy-out-t Inv-loop μ-loop
 shared-slice-copy-out-t c = search needs
 
--- src/lines.rt:25:12
 eq-requires : tie.Need-eq-requires Inv-loop μ-loop
 eq-requires c κs = search needs
 
--- src/lines.rt:26:13
 returns : tie.Need-returns Inv-loop μ-loop
 returns c = let l = c .before .before .before .before .before .args .image .now in
     let n = c .before .before .before .before .loop .n in
     let e = rw (back (getD l (3 * n) (pos 0)) (c .before .before .t .given)) at (sym (c .before .eq .ensures) ∙ c .if1 .taken) in
     empty-here l n (omega arith) e ∙ c .before .before .before .before .loop .inv .1
 
--- src/lines.rt:28:9
 add-n : tie.Need-add-n Inv-loop μ-loop
 add-n c = search needs
 
--- src/lines.rt:23:5
 loop-less : tie.Need-loop-less Inv-loop μ-loop
 loop-less c = search needs
 
--- src/lines.rt:23:5
 loop-again : tie.Need-loop-again Inv-loop μ-loop
 loop-again c = let l = c .before .before .before .before .before .args .image .now in
     let n = c .before .before .before .before .loop .n in
     let e = rw (back (getD l (3 * n) (pos 0)) (c .before .before .t .given)) at (sym (c .before .eq .ensures) ∙ c .if1 .left) in
     (omega arith, empty-next l n (omega arith) e ∙ c .before .before .before .before .loop .inv .1)
 
--- src/lines.rt:18:1
 returns-2 : tie.Need-returns-2 Inv-loop μ-loop
 returns-2 c = empty-none (c .before .before .args .image .now) (c .before .loop .n) (omega arith) ∙ c .before .loop .inv .1
 

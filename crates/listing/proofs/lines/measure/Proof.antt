@@ -3,17 +3,11 @@ use Prim.Native.Nat.{_+_, _-_, _≤_}
 use native.Mathlib.Omega.{arith}
 use lib.ListN.{length}
 use borrow.Author.Needs.{needs}
-use Rattle.definition.specs.Encoding.{sound}
-use Rattle.definition.specs.Memory.{cellAt}
 use Rattle.listing.specs.Listing.{lineText}
 use Rattle.listing.specs.Call.{imageText}
 use Rattle.listing.proofs.Cells.{Undamaged, undamaged-first, undamaged-next, sound-here, linesFrom, lines-length, lines-end, text-whole, fits, fits-not}
 use Rattle.listing.proofs.lines.measure.Statement.{statement}
 use Rattle.listing.proofs.lines.measure.Tie as tie
-use Rattle.listing.proofs.lines.measure.Reads as reads
-use Rattle.listing.proofs.lines.measure.Lts as lts
-use Rattle.encoding.proofs.cell_at.Reads as cell-at-reads
-use Rattle.listing.proofs.line.put_line.Reads as put-line-reads
 
 abbrev Inv-loop : tie.InvT-loop
 Inv-loop image room count line₀ n₀ bytes₀ line n bytes = (80 ≡ length line) × (n ≤ count) × (bytes ≤ room) × Undamaged image n × (bytes + length (linesFrom image n) ≡ length (imageText image))
@@ -21,27 +15,21 @@ Inv-loop image room count line₀ n₀ bytes₀ line n bytes = (80 ≡ length li
 abbrev μ-loop : tie.MeasureT-loop
 μ-loop image room count line₀ n₀ bytes₀ line n bytes = count - n
 
--- src/lines.rt:42:5
 loop-holds : tie.Need-loop-holds Inv-loop μ-loop
 loop-holds c = (refl, omega arith, omega arith, undamaged-first (c .args .image .now) (c .pre), text-whole (c .args .image .now))
 
--- src/lines.rt:43:26
 slice-aggregate-put-line : tie.Need-slice-aggregate-put-line Inv-loop μ-loop
 slice-aggregate-put-line c = search needs
 
--- src/lines.rt:43:37
 cell-at-requires : tie.Need-cell-at-requires Inv-loop μ-loop
 cell-at-requires c κs = search needs
 
--- src/lines.rt:43:13
 put-line-requires : tie.Need-put-line-requires Inv-loop μ-loop
 put-line-requires c κs = let l = c .before .before .before .before .args .image .now in let n = c .before .before .before .loop .n in (rw (c .cell-at .ensures) (sound-here l n (omega arith) (c .before .before .before .loop .inv .3)), search needs)
 
--- src/lines.rt:44:12
 sub-if1 : tie.Need-sub-if1 Inv-loop μ-loop
 sub-if1 c = search needs
 
--- src/lines.rt:45:13
 returns : tie.Need-returns Inv-loop μ-loop
 returns c = let l = c .before .before .before .before .before .before .before .args .image .now in
     let p = c .before .before .before .before .before .before .loop in
@@ -51,19 +39,15 @@ returns c = let l = c .before .before .before .before .before .before .before .a
     let h = c .if1 .taken in
     fits-not (length (imageText l)) (c .before .before .before .before .before .before .before .args .room) (omega arith)
 
--- src/lines.rt:50:9
 add-bytes : tie.Need-add-bytes Inv-loop μ-loop
 add-bytes c = search needs
 
--- src/lines.rt:51:9
 add-n : tie.Need-add-n Inv-loop μ-loop
 add-n c = search needs
 
--- src/lines.rt:42:5
 loop-less : tie.Need-loop-less Inv-loop μ-loop
 loop-less c = search needs
 
--- src/lines.rt:42:5
 loop-again : tie.Need-loop-again Inv-loop μ-loop
 loop-again c = let l = c .before .before .before .before .before .before .before .args .image .now in
     let p = c .before .before .before .before .before .before .loop in
@@ -73,7 +57,6 @@ loop-again c = let l = c .before .before .before .before .before .before .before
     let h = c .if1 .left in
     (p .inv .0 ∙ sym (c .before .before .put-line .kept .0), omega arith, omega arith, undamaged-next l (p .n) (omega arith) (p .inv .3), omega arith)
 
--- src/lines.rt:34:1
 returns-2 : tie.Need-returns-2 Inv-loop μ-loop
 returns-2 c = let l = c .before .before .args .image .now in
     let p = c .before .loop in

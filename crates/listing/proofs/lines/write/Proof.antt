@@ -1,21 +1,12 @@
 use mathlib.Core.Path.{_≡_, refl, sym, ap, _∙_}
-use mathlib.Core.List.{_++_}
-use Prim.Native.Nat.{_+_, _-_, _≤_}
+use Prim.Native.Nat.{_-_, _≤_}
 use native.Mathlib.Omega.{arith}
-use lib.ListN.{length, take, drop}
+use lib.ListN.{length}
 use borrow.Author.Needs.{needs}
-use Rattle.definition.specs.Memory.{cellAt}
-use Rattle.decimal.proofs.Laws.{put-next, kept-then}
 use Rattle.listing.specs.Listing.{lineText}
-use Rattle.listing.specs.Call.{imageText}
 use Rattle.listing.proofs.Cells.{Undamaged, undamaged-first, undamaged-next, sound-here, lines-length, Writing, writing-first, writing-next, written}
 use Rattle.listing.proofs.lines.write.Statement.{statement}
 use Rattle.listing.proofs.lines.write.Tie as tie
-use Rattle.listing.proofs.lines.write.Reads as reads
-use Rattle.listing.proofs.lines.write.Lts as lts
-use Rattle.decimal.proofs.put.Reads as put-reads
-use Rattle.encoding.proofs.cell_at.Reads as cell-at-reads
-use Rattle.listing.proofs.line.put_line.Reads as put-line-reads
 
 abbrev Inv-loop : tie.InvT-loop
 Inv-loop image text₀ count line₀ n₀ at₀ text line n at = (80 ≡ length line) × (n ≤ count) × Undamaged image n × Writing image text₀ text n at
@@ -23,31 +14,24 @@ Inv-loop image text₀ count line₀ n₀ at₀ text line n at = (80 ≡ length 
 abbrev μ-loop : tie.MeasureT-loop
 μ-loop image text₀ count line₀ n₀ at₀ text line n at = count - n
 
--- src/lines.rt:67:5
 loop-holds : tie.Need-loop-holds Inv-loop μ-loop
 loop-holds c = (refl, omega arith, undamaged-first (c .before .args .image .now) (c .before .pre .0), writing-first (c .before .args .image .now) (c .before .args .text .now))
 
--- src/lines.rt:68:26
 slice-aggregate-put-line : tie.Need-slice-aggregate-put-line Inv-loop μ-loop
 slice-aggregate-put-line c = search needs
 
--- src/lines.rt:68:37
 cell-at-requires : tie.Need-cell-at-requires Inv-loop μ-loop
 cell-at-requires c κs = search needs
 
--- src/lines.rt:68:13
 put-line-requires : tie.Need-put-line-requires Inv-loop μ-loop
 put-line-requires c κs = let l = c .before .before .before .before .before .args .image .now in let n = c .before .before .before .loop .n in (rw (c .cell-at .ensures) (sound-here l n (omega arith) (c .before .before .before .loop .inv .2)), search needs)
 
--- src/lines.rt:69:37
 array-share-prefix-line : tie.Need-array-share-prefix-line Inv-loop μ-loop
 array-share-prefix-line c = search needs
 
--- src/lines.rt:69:37
 slice-aggregate-put : tie.Need-slice-aggregate-put Inv-loop μ-loop
 slice-aggregate-put c = search needs
 
--- src/lines.rt:69:9
 put-requires : tie.Need-put-requires Inv-loop μ-loop
 put-requires c κs = let l = c .before .before .before .before .before .before .before .before .before .args .image .now in
     let p = c .before .before .before .before .before .before .before .loop in
@@ -59,15 +43,12 @@ put-requires c κs = let l = c .before .before .before .before .before .before .
     let r = c .before .before .before .before .before .before .before .before .before .pre .1 in
     rw t (omega arith)
 
--- src/lines.rt:70:9
 add-n : tie.Need-add-n Inv-loop μ-loop
 add-n c = search needs
 
--- src/lines.rt:67:5
 loop-less : tie.Need-loop-less Inv-loop μ-loop
 loop-less c = search needs
 
--- src/lines.rt:67:5
 loop-again : tie.Need-loop-again Inv-loop μ-loop
 loop-again c = let s = c .before .before .before .before .before .before .before .before .before .before .before .before in
     let l = s .args .image .now in
@@ -78,11 +59,9 @@ loop-again c = let s = c .before .before .before .before .before .before .before
     let e = rw t at (w .ensures) in
     (p .inv .0 ∙ sym (u .kept .0), omega arith, undamaged-next l (p .n) (omega arith) (p .inv .2), writing-next l (s .args .text .now) (p .text) (p .n) (p .at) (omega arith) (p .inv .3) (w .last .0) (w .result) (e .0) (e .1 .0) (e .1 .1) (w .kept .0))
 
--- src/lines.rt:59:1
 same-length : tie.Need-same-length Inv-loop μ-loop
 same-length c = c .before .loop .inv .3 .same
 
--- src/lines.rt:59:1
 returns : tie.Need-returns Inv-loop μ-loop
 returns c = written (c .before .before .before .args .image .now) (c .before .before .before .args .text .now) (c .before .loop .text) (c .before .loop .n) (c .before .loop .at) (omega arith) (c .before .loop .inv .3)
 

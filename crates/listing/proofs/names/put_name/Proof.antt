@@ -1,13 +1,8 @@
 use native.Mathlib.Omega.{arith}
-use Prim.Native.Nat.{_%_, _/_}
-use lib.ListN.{length}
 use borrow.Author.Needs.{needs}
 use Rattle.listing.proofs.Pieces.{Spelling, spell-first, spell-room, spell-next, spell-last}
 use Rattle.listing.proofs.names.put_name.Statement.{statement}
 use Rattle.listing.proofs.names.put_name.Tie as tie
-use Rattle.listing.proofs.names.put_name.Reads as reads
-use Rattle.listing.proofs.names.put_name.Lts as lts
-use Rattle.decimal.proofs.put_byte.Reads as put-byte-reads
 
 abbrev Inv-loop : tie.InvT-loop
 Inv-loop out₀ at name k₀ n₀ out k n = Spelling at name out₀ out k n
@@ -15,35 +10,27 @@ Inv-loop out₀ at name k₀ n₀ out k n = Spelling at name out₀ out k n
 abbrev μ-loop : tie.MeasureT-loop
 μ-loop out₀ at name k₀ n₀ out k n = n
 
--- src/names.rt:71:5
 loop-holds : tie.Need-loop-holds Inv-loop μ-loop
 loop-holds c = spell-first _ _ _ (c .before .pre .1)
 
--- src/names.rt:72:44
 cast-put-byte : tie.Need-cast-put-byte Inv-loop μ-loop
 cast-put-byte c = search needs
 
--- src/names.rt:72:39
 add-put-byte : tie.Need-add-put-byte Inv-loop μ-loop
 add-put-byte c = search needs
 
--- src/names.rt:72:9
 put-byte-requires : tie.Need-put-byte-requires Inv-loop μ-loop
 put-byte-requires c κs = let i = c .before .before .loop .inv in let s = i .same in let r = spell-room _ _ _ _ _ _ i (c .before .loop-test .taken) in let h = c .before .before .before .before .pre .0 in omega arith
 
--- src/names.rt:71:5
 loop-less : tie.Need-loop-less Inv-loop μ-loop
 loop-less c = let z = c .before .before .before .before .loop-test .taken in omega arith
 
--- src/names.rt:71:5
 loop-again : tie.Need-loop-again Inv-loop μ-loop
 loop-again c = let i = c .before .before .before .before .before .loop .inv in let p = c .before .before .put-byte in spell-next _ _ _ _ _ _ i (c .before .before .before .before .loop-test .taken) (p .last .0) (p .result) (p .ensures .0) (p .ensures .1 .0) (p .kept .0)
 
--- src/names.rt:64:1
 same-length : tie.Need-same-length Inv-loop μ-loop
 same-length c = c .before .loop .inv .same
 
--- src/names.rt:64:1
 returns : tie.Need-returns Inv-loop μ-loop
 returns c = let e = spell-last _ _ _ _ _ _ (c .before .loop .inv) (c .loop-test .left) in (e .text, e .count)
 

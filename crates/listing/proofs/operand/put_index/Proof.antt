@@ -9,43 +9,30 @@ use Rattle.listing.proofs.Pieces.{index-minus, index-plus}
 use borrow.Author.Needs.{needs}
 use Rattle.listing.proofs.operand.put_index.Statement.{statement}
 use Rattle.listing.proofs.operand.put_index.Tie as tie
-use Rattle.listing.proofs.operand.put_index.Reads as reads
-use Rattle.listing.proofs.operand.put_index.Lts as lts
-use Rattle.decimal.proofs.put_byte.Reads as put-byte-reads
-use Rattle.decimal.proofs.put_numeral.Reads as put-numeral-reads
-use Rattle.word.proofs.lt.Reads as lt-reads
 
--- src/operand.rt:27:8
 lt-requires : tie.Need-lt-requires
 lt-requires c κs = search needs
 
--- src/operand.rt:28:9
 put-numeral-requires : tie.Need-put-numeral-requires
 put-numeral-requires c κs = rw (toZ-ofZ (c .before .before .before .before .fits .w)) (omega (arith, numeral-short (c .before .before .before .before .args .w)))
 
--- src/operand.rt:28:9
 same-length : tie.Need-same-length
 same-length c = search needs
 
--- src/operand.rt:28:9
 returns : tie.Need-returns
 returns c = let f = toZ-ofZ (c .before .before .before .before .before .before .before .fits .w) in
     let e = rw f at (c .before .before .put-numeral .ensures) in
     rw (index-minus (c .before .before .before .before .before .before .before .args .w) (rw f at (sym (c .before .before .before .before .before .lt .ensures) ∙ c .before .before .before .before .if1 .taken))) (e .0, e .1 .0)
 
--- src/operand.rt:30:9
 put-byte-requires : tie.Need-put-byte-requires
 put-byte-requires c κs = search needs
 
--- src/operand.rt:31:5
 put-numeral-requires-2 : tie.Need-put-numeral-requires-2
 put-numeral-requires-2 c κs = rw (toZ-ofZ (c .before .before .before .before .before .before .before .before .fits .w)) (omega (arith, numeral-short (c .before .before .before .before .before .before .before .before .args .w)))
 
--- src/operand.rt:22:1
 same-length-2 : tie.Need-same-length-2
 same-length-2 c = search needs
 
--- src/operand.rt:22:1
 returns-2 : tie.Need-returns-2
 returns-2 c = let f = toZ-ofZ (c .before .before .before .before .before .before .before .before .before .before .before .fits .w) in
     let a = c .before .before .before .before .before .before .before .before .before .before .before .args in

@@ -1,55 +1,39 @@
-use mathlib.Core.List.{[], _∷_}
 use native.Mathlib.Omega.{arith}
 use lib.ListN.{take, length-append}
 use mir.Facts.{toZ-ofZ}
-use Rattle.decimal.specs.Decimal.{numeral}
 use Rattle.decimal.proofs.Laws.{put-then, numeral-short}
 use Rattle.listing.specs.Listing.{indexText, registerText}
 use Rattle.listing.proofs.Pieces.{register-short, inner-direct, inner-indirect, inner-indexed}
 use borrow.Author.Needs.{needs}
 use Rattle.listing.proofs.operand.put_inner.Statement.{statement}
 use Rattle.listing.proofs.operand.put_inner.Tie as tie
-use Rattle.listing.proofs.operand.put_inner.Reads as reads
-use Rattle.listing.proofs.operand.put_inner.Lts as lts
-use Rattle.decimal.proofs.put_numeral.Reads as put-numeral-reads
-use Rattle.listing.proofs.operand.put_index.Reads as put-index-reads
-use Rattle.listing.proofs.operand.put_register.Reads as put-register-reads
 
--- src/operand.rt:41:9
 put-numeral-requires : tie.Need-put-numeral-requires
 put-numeral-requires c κs = rw (toZ-ofZ (c .before .before .before .fits .w)) (omega (arith, numeral-short (c .before .before .before .args .w)))
 
--- src/operand.rt:41:9
 same-length : tie.Need-same-length
 same-length c = search needs
 
--- src/operand.rt:41:9
 returns : tie.Need-returns
 returns c = let a = c .before .before .before .before .before .before .args in
     let e = rw (toZ-ofZ (c .before .before .before .before .before .before .fits .w)) at (c .before .before .put-numeral .ensures) in
     rw (inner-direct (a .m) (a .r) (a .w) (c .before .before .before .before .if1 .taken)) (e .0, e .1 .0)
 
--- src/operand.rt:43:9
 put-register-requires : tie.Need-put-register-requires
 put-register-requires c κs = search needs
 
--- src/operand.rt:45:9
 same-length-2 : tie.Need-same-length-2
 same-length-2 c = search needs
 
--- src/operand.rt:45:9
 returns-2 : tie.Need-returns-2
 returns-2 c = let a = c .before .before .before .before .before .before .before .args in rw (inner-indirect (a .m) (a .r) (a .w) (c .if2 .taken)) (c .before .before .before .put-register .ensures)
 
--- src/operand.rt:47:5
 put-index-requires : tie.Need-put-index-requires
 put-index-requires c κs = omega (arith, register-short (c .before .before .before .before .before .before .before .before .args .r))
 
--- src/operand.rt:35:1
 same-length-3 : tie.Need-same-length-3
 same-length-3 c = search needs
 
--- src/operand.rt:35:1
 returns-3 : tie.Need-returns-3
 returns-3 c = let a = c .before .before .before .before .before .before .before .before .before .before .before .args in
     let e = rw (toZ-ofZ (c .before .before .before .before .before .before .before .before .before .before .before .fits .w)) at (c .before .before .put-index .ensures) in

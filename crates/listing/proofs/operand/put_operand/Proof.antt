@@ -8,58 +8,41 @@ use Rattle.listing.proofs.Pieces.{inner-short, operand-immediate, opera
 use borrow.Author.Needs.{needs}
 use Rattle.listing.proofs.operand.put_operand.Statement.{statement}
 use Rattle.listing.proofs.operand.put_operand.Tie as tie
-use Rattle.listing.proofs.operand.put_operand.Reads as reads
-use Rattle.listing.proofs.operand.put_operand.Lts as lts
-use Rattle.decimal.proofs.put_byte.Reads as put-byte-reads
-use Rattle.decimal.proofs.put_numeral.Reads as put-numeral-reads
-use Rattle.listing.proofs.operand.put_inner.Reads as put-inner-reads
-use Rattle.listing.proofs.operand.put_register.Reads as put-register-reads
 
--- src/operand.rt:57:9
 put-numeral-requires : tie.Need-put-numeral-requires
 put-numeral-requires c κs = rw (toZ-ofZ (c .before .before .before .fits .w)) (omega (arith, numeral-short (c .before .before .before .args .w)))
 
--- src/operand.rt:57:9
 same-length : tie.Need-same-length
 same-length c = search needs
 
--- src/operand.rt:57:9
 returns : tie.Need-returns
 returns c = let a = c .before .before .before .before .before .before .args in
     let e = rw (toZ-ofZ (c .before .before .before .before .before .before .fits .w)) at (c .before .before .put-numeral .ensures) in
     rw (operand-immediate (a .m) (a .r) (a .w) (c .before .before .before .before .if1 .taken)) (e .0, e .1 .0)
 
--- src/operand.rt:60:9
 put-register-requires : tie.Need-put-register-requires
 put-register-requires c κs = search needs
 
--- src/operand.rt:60:9
 same-length-2 : tie.Need-same-length-2
 same-length-2 c = search needs
 
--- src/operand.rt:60:9
 returns-2 : tie.Need-returns-2
 returns-2 c = let a = c .before .before .before .before .before .before .before .args in rw (operand-register (a .m) (a .r) (a .w) (c .before .before .before .before .if2 .taken)) (c .before .before .put-register .ensures)
 
--- src/operand.rt:62:9
 put-byte-requires : tie.Need-put-byte-requires
 put-byte-requires c κs = search needs
 
--- src/operand.rt:63:9
 put-inner-requires : tie.Need-put-inner-requires
 put-inner-requires c κs = search needs
 
--- src/operand.rt:64:5
 put-byte-requires-2 : tie.Need-put-byte-requires-2
 put-byte-requires-2 c κs = let a = c .before .before .before .before .before .before .before .before .before .before .before .before .args in
     let e = rw (toZ-ofZ (c .before .before .before .before .before .before .before .before .before .before .before .before .fits .w)) at (c .before .before .before .put-inner .ensures) in
     omega (arith, e .1, inner-short (a .m) (a .r) (a .w))
 
--- src/operand.rt:51:1
 same-length-3 : tie.Need-same-length-3
 same-length-3 c = search needs
 
--- src/operand.rt:51:1
 returns-3 : tie.Need-returns-3
 returns-3 c = let a = c .before .before .before .before .before .before .before .before .before .before .before .before .before .before .before .args in
     let e = rw (toZ-ofZ (c .before .before .before .before .before .before .before .before .before .before .before .before .before .before .before .fits .w)) at (c .before .before .before .before .before .before .put-inner .ensures) in

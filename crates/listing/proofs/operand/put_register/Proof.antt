@@ -9,29 +9,19 @@ use Rattle.listing.proofs.Pieces.{register-is, register-small}
 use borrow.Author.Needs.{needs}
 use Rattle.listing.proofs.operand.put_register.Statement.{statement}
 use Rattle.listing.proofs.operand.put_register.Tie as tie
-use Rattle.listing.proofs.operand.put_register.Reads as reads
-use Rattle.listing.proofs.operand.put_register.Lts as lts
-use Rattle.decimal.proofs.put_byte.Reads as put-byte-reads
-use Rattle.listing.proofs.names.put_name.Reads as put-name-reads
-use Rattle.listing.proofs.names.register.Reads as register-reads
 
--- src/operand.rt:17:9
 put-byte-requires : tie.Need-put-byte-requires
 put-byte-requires c κs = search needs
 
--- src/operand.rt:18:36
 register-requires : tie.Need-register-requires
 register-requires c κs = search needs
 
--- src/operand.rt:18:5
 put-name-requires : tie.Need-put-name-requires
 put-name-requires c κs = (omega arith, rw (c .register .ensures) (register-small (c .before .before .before .before .before .before .before .args .r)))
 
--- src/operand.rt:12:1
 same-length : tie.Need-same-length
 same-length c = search needs
 
--- src/operand.rt:12:1
 returns : tie.Need-returns
 returns c = let a = c .before .before .before .before .before .before .before .before .before .before .args in
     let e = rw (ap spelling (c .before .before .before .register .ensures) ∙ register-is (a .r)) at (c .before .before .put-name .ensures) in
