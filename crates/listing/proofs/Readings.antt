@@ -1,5 +1,5 @@
 -- A sound cell's line is a line of the grammar, and its reading makes that cell. Assumes nothing.
-use mathlib.Core.Path.{_≡_, refl, sym, ap, subst}
+use mathlib.Core.Path.{_≡_, refl, sym, ap, _∙_, subst}
 use mathlib.Core.Bool.{true, false, not, _&&_, _||_}
 use mathlib.Core.List.{List, [], _∷_, _++_, append-nil}
 use mathlib.Core.Option.{Option, none}
@@ -7,7 +7,7 @@ use Prim.Native.Nat.{ℕ, zero, suc, _+_, _*_, _≤_, _<_, _/_, _%_, _^_}
 use native.Mathlib.Omega.{arith}
 use native.Mathlib.Nat.{pow-suc}
 use lib.IntN.{ℤ, pos, negsuc}
-use lib.ListN.{getD}
+use lib.ListN.{length, getD, length-append}
 use lib.Dec.{eqb}
 use borrow.Author.Tests.{ltb-true, eqb-true, lt-ltb}
 use Rattle.definition.specs.declared.Cell.{Cell}
@@ -41,6 +41,33 @@ decimal-digits (suc k) n h =
     (λ e l. let i = decimal-digits k (n / 10) (omega arith) in
     let v : n / 10 * 10 + n % 10 ≡ n = omega arith in
     rw e (subst (Digits (decimalIn (suc k) (n / 10) ++ ((48 + n % 10) ∷ []))) v (EG.more {d = n % 10} i (omega arith))))
+
+digits-below : {s : List ℕ} {v : ℕ} → Digits s v → v < 10 ^ length s
+digits-below (EG.one {d} h) = h
+digits-below (EG.more {s} {v} {d} p h) =
+    let b = digits-below p in
+    let e : length (s ++ ((48 + d) ∷ [])) ≡ suc (length s) = length-append s ((48 + d) ∷ []) ∙ omega arith in
+    let q = pow-suc 10 (length s) in
+    rw e (omega arith)
+
+digits-some : {s : List ℕ} {v : ℕ} → Digits s v → 1 ≤ length s
+digits-some (EG.one h) = omega arith
+digits-some (EG.more {s} {v} {d} p h) = simp length-append (omega arith)
+
+decimal-within : (k j n : ℕ) → 1 ≤ j → n < 10 ^ j → length (decimalIn k n) ≤ j
+unfolding decimalIn
+decimal-within zero j n h l = omega arith
+decimal-within (suc k) zero n h l = absurd (omega arith)
+decimal-within (suc k) (suc zero) n h l = let m : n < 10 = l in rw (lt-ltb n 10 m) (omega arith)
+decimal-within (suc k) (suc (suc j)) n h l =
+    let p = pow-suc 10 (suc j) in
+    ltb-elim n 10
+    (λ e m. rw e (omega arith))
+    (λ e m. let i = decimal-within k (suc j) (n / 10) (omega arith) (omega arith) in
+    rw e (simp length-append (omega arith)))
+
+pub shortest : (n : ℕ) (s : List ℕ) → Digits s n → length (decimal n) ≤ length s
+shortest n s p = decimal-within 20 (length s) n (digits-some p) (digits-below p)
 
 word-digits : (n : ℕ) → n ≤ 9223372036854775808 → Digits (decimal n) n
 word-digits n h = decimal-digits 19 n (omega arith)

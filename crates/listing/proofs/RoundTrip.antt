@@ -28,7 +28,7 @@ use Rattle.assembly.proofs.Cells.{one-reading}
 use Rattle.listing.specs.Listing.{listing, imageCells, isEmpty, anyEmpty}
 use Rattle.listing.specs.Call.{imageText, isImage, hasLeave, listCheck, inFront, listCall}
 use Rattle.listing.specs.Theorems.{allWords, keptAt, kept, numbersOf, listedBack, ListLaws}
-use Rattle.listing.proofs.Readings.{lineOf, line-reads, whole-of, line-of}
+use Rattle.listing.proofs.Readings.{shortest, lineOf, line-reads, whole-of, line-of}
 
 -- ---- cells in order
 
@@ -216,4 +216,4 @@ keeps leave image buffer h =
 
 pub list-laws : ListLaws
 list-laws =
-    record { line-of = line-of; any-reading = any-reading; round-trip = round-trip; exactly = exactly; without-leave = λ image buffer room w l h. exactly 0 image buffer room w l h (none-empty image (list-passed 0 image buffer h .leave-given)); behind = behind; keeps = keeps }
+    record { shortest = shortest; line-of = line-of; any-reading = any-reading; round-trip = round-trip; exactly = exactly; without-leave = λ image buffer room w l h. exactly 0 image buffer room w l h (none-empty image (list-passed 0 image buffer h .leave-given)); behind = behind; keeps = keeps }

@@ -4,7 +4,7 @@ use mathlib.Core.Logic.{_≢_}
 use mathlib.Core.Bool.{Bool, true, false, _&&_}
 use mathlib.Core.List.{List, [], _∷_, map}
 use mathlib.Core.Option.{Option}
-use Prim.Native.Nat.{ℕ, zero, suc}
+use Prim.Native.Nat.{ℕ, zero, suc, _≤_}
 use lib.IntN.{ℤ, pos, negsuc}
 use lib.ListN.{length, take, drop}
 use Rattle.definition.specs.declared.Cell.{Cell}
@@ -13,7 +13,8 @@ use Rattle.definition.specs.Word.{isWord}
 use Rattle.definition.specs.Memory.{cell, word, cellCount}
 use Rattle.definition.specs.Encoding.{sound}
 use Rattle.definition.specs.Calls.{Called, called}
-use Rattle.expression.specs.Grammar.{Expr}
+use Rattle.decimal.specs.Decimal.{decimal}
+use Rattle.expression.specs.Grammar.{Expr, Digits}
 use Rattle.assembly.specs.Grammar.{Line, Row, Rows}
 use Rattle.assembly.specs.Assemble.{lineValues, lineCell, counted, assembleCall}
 use Rattle.listing.specs.Listing.{imageCells, anyEmpty, lineText}
@@ -50,6 +51,8 @@ listedBack leave image buffer room =
     assembleCall (take (c .answer .count) (c .left)) room
 
 pub record ListLaws : Type 0 where
+  -- "numbers in shortest decimal": no digits of the same value are fewer.
+  pub shortest : (n : ℕ) (s : List ℕ) → Digits s n → length (decimal n) ≤ length s
   pub line-of : (v : Cell) → sound v ≡ true → isWord (v .first) ≡ true → isWord (v .second) ≡ true → LineOf v
   -- "each text has one reading": any reading of the text makes the image's cells.
   pub any-reading : (leave : ℕ) (image : List ℤ) (buffer : List ℕ) → allWords image ≡ true → listCall leave image buffer .answer .refusal ≡ 0
