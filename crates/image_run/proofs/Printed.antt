@@ -14,7 +14,7 @@ use Rattle.lines.specs.Grammar.{Digits, Numeral, Image, Breaks}
 use Rattle.lines.specs.Grammar as G
 use Rattle.lines.proofs.Complete.{startOf}
 use Rattle.lines.proofs.Exact.{taken, broken-at}
-use Rattle.decimal.specs.Decimal.{decimalIn, decimal, numeral}
+use Rattle.printing.specs.Decimal.{decimalIn, decimal, numeral}
 use Rattle.report.specs.Text.{refusalText}
 use Rattle.image_run.specs.Image.{imageText, printed}
 use Rattle.image_run.proofs.Laws.{refused-report, image-report}

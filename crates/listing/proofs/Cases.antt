@@ -7,7 +7,7 @@ use Rattle.definition.specs.Word.{addressOf}
 use Rattle.definition.specs.Encoding.{opAt, allows, signature, legal, isAddress, registerFits, numberFits, soundInstruction, soundAt, sound}
 use Rattle.definition.specs.Calls.{called, verdict, lowestDamaged}
 use Rattle.assembly.specs.Assemble.{counted}
-use Rattle.decimal.specs.Decimal.{decimalIn, numeral}
+use Rattle.printing.specs.Decimal.{decimalIn, numeral}
 use Rattle.listing.specs.Listing.{indexText, operandText, operandsText, codeText, contentText, lineText, listing, imageCells, anyEmpty}
 use Rattle.listing.specs.Call.{imageText, isImage, hasLeave, listCheck, listCall}
 

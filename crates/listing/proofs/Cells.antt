@@ -13,7 +13,7 @@ use Rattle.definition.specs.Memory.{cellCount, cellAt}
 use Rattle.definition.specs.Encoding.{sound}
 use Rattle.definition.specs.Calls.{lowestDamaged}
 use Rattle.encoding.proofs.Sound.{damaged-later, damaged-here}
-use Rattle.decimal.proofs.Laws.{put-next, kept-then}
+use Rattle.printing.proofs.Laws.{put-next, kept-then}
 use Rattle.expression.proofs.Spans.{by-bool}
 use Rattle.listing.specs.Listing.{lineText, listing, imageCells, anyEmpty}
 use Rattle.listing.specs.Call.{imageText, inFront}

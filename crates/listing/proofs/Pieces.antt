@@ -12,8 +12,8 @@ use lib.Dec.{ltb, eqb}
 use borrow.Author.Tests.{ltb-true, eq-eqb, ne-eqb}
 use Rattle.definition.specs.Word.{eqZ}
 use Rattle.definition.specs.Encoding.{opNumber, mode₁, mode₂, reg₁, reg₂, soundAt}
-use Rattle.decimal.specs.Decimal.{numeral}
-use Rattle.decimal.proofs.Laws.{put-next, decimal-short, numeral-short}
+use Rattle.printing.specs.Decimal.{numeral}
+use Rattle.printing.proofs.Laws.{put-next, decimal-short, numeral-short}
 use Rattle.expression.proofs.Spans.{by-bool, clash}
 use Rattle.expression.proofs.Sound.{both}
 use Rattle.encoding.proofs.Sound.{Code, code, far}

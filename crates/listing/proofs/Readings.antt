@@ -16,7 +16,7 @@ use Rattle.definition.specs.Memory.{cell, word}
 use Rattle.definition.specs.Encoding.{legal, signature, opAt, allows, opNumber, mode₁, mode₂, reg₁, reg₂, tagOf, sound, soundAt, soundInstruction, registerFits, numberFits, isAddress}
 use Rattle.definition.proofs.Encoding.{tag-laws}
 use Rattle.word.proofs.Laws.{ltb-elim}
-use Rattle.decimal.specs.Decimal.{decimalIn, decimal, numeral}
+use Rattle.printing.specs.Decimal.{decimalIn, decimal, numeral}
 use Rattle.expression.specs.Grammar.{Expr, Number, Digits, sum, atom, Reads}
 use Rattle.expression.specs.Grammar as EG
 use Rattle.expression.specs.Values.{valued, numberValue, eval}

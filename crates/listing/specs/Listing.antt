@@ -10,7 +10,7 @@ use Rattle.definition.specs.declared.Cell.{Cell}
 use Rattle.definition.specs.Word.{eqZ}
 use Rattle.definition.specs.Memory.{cell}
 use Rattle.definition.specs.Encoding.{opNumber, mode₁, mode₂, reg₁, reg₂}
-use Rattle.decimal.specs.Decimal.{decimal, numeral}
+use Rattle.printing.specs.Decimal.{decimal, numeral}
 use Rattle.assembly.specs.Grammar.{mnemonics, registers, dotWord}
 
 -- "An index is + or - and digits"; "index 0 as +0".

@@ -6,7 +6,7 @@ use lib.IntN.{ℤ}
 use lib.Dec.{leb}
 use Rattle.definition.specs.declared.Cell.{Cell}
 use Rattle.definition.specs.Encoding.{mode₁, mode₂, reg₁, reg₂}
-use Rattle.decimal.specs.Decimal.{numeral}
+use Rattle.printing.specs.Decimal.{numeral}
 use Rattle.listing.specs.declared.lines.Fit.{Fit}
 use Rattle.listing.specs.Listing.{indexText, registerText, operandText, operandsText, contentText}
 

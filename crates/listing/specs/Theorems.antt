@@ -13,7 +13,7 @@ use Rattle.definition.specs.Word.{isWord}
 use Rattle.definition.specs.Memory.{cell, word, cellCount}
 use Rattle.definition.specs.Encoding.{sound}
 use Rattle.definition.specs.Calls.{Called, called}
-use Rattle.decimal.specs.Decimal.{decimal}
+use Rattle.printing.specs.Decimal.{decimal}
 use Rattle.expression.specs.Grammar.{Expr, Digits}
 use Rattle.assembly.specs.Grammar.{Line, Row, Rows}
 use Rattle.assembly.specs.Assemble.{lineValues, lineCell, counted, assembleCall}

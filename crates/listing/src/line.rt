@@ -1,8 +1,8 @@
 // A cell's line, put at the front of a buffer that holds any line; each function answers where it ends.
 use super::operand::put_operand;
-use decimal::put;
-use decimal::put_byte;
-use decimal::put_numeral;
+use printing::put;
+use printing::put_byte;
+use printing::put_numeral;
 use definition::Cell;
 ghost use mathlib.Core.Path.{_≡_};
 ghost use mathlib.Core.Bool.{true};

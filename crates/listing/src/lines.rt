@@ -63,7 +63,7 @@ pub fn write(image: &[i64], text: &mut [u8])
     let mut at: usize = 0;
     while n < count {
         let k = put_line(&mut line, encoding::cell_at(image, n));
-        at = decimal::put(text, at, &line[..k]);
+        at = printing::put(text, at, &line[..k]);
         n += 1;
     }
 }

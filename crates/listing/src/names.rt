@@ -69,7 +69,7 @@ pub fn put_name(out: &mut [u8], at: usize, name: u32) -> usize
     let mut k = at;
     let mut n = name;
     while n != 0 {
-        k = decimal::put_byte(out, k, 96 + (n % 32) as u8);
+        k = printing::put_byte(out, k, 96 + (n % 32) as u8);
         n = n / 32;
     }
     k

@@ -1,6 +1,6 @@
 // An operand as text, put behind the first `at` bytes of a line; each function answers where it ends.
-use decimal::put_byte;
-use decimal::put_numeral;
+use printing::put_byte;
+use printing::put_numeral;
 ghost use mathlib.Core.Path.{_≡_};
 ghost use mathlib.Core.List.{_++_};
 ghost use Prim.Native.Nat.{_+_, _≤_, _<_};

@@ -1,8 +1,8 @@
 // What a replay found, in one line of text: each function puts its text behind the first `at` bytes of out and answers where it ends.
 use crate::state::State;
 use crate::state::fails;
-use decimal::put;
-use decimal::put_decimal;
+use printing::put;
+use printing::put_decimal;
 use recorded::compare::Fault;
 ghost use mathlib.Core.Path.{_≡_};
 ghost use mathlib.Core.List.{_++_};

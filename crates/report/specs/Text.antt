@@ -2,7 +2,7 @@
 use mathlib.Core.List.{List, [], _∷_, _++_}
 use Prim.Native.Nat.{ℕ, _+_}
 use lib.IntN.{ℤ, pos}
-use Rattle.decimal.specs.Decimal.{decimal, numeral}
+use Rattle.printing.specs.Decimal.{decimal, numeral}
 use Rattle.definition.specs.declared.Ran.{Ran}
 use Rattle.definition.specs.Constants.{ROW-A, ROW-B, ROW-PC, ROW-SP, ROW-SR, ROW-CYCLES, ROW-WRITTEN}
 use Rattle.definition.specs.Calls.{at}

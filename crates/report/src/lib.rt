@@ -1,9 +1,9 @@
 // What the runner prints, as text: the seven lines of a run, or a refusal. Each function puts a text behind the first `at` bytes of a buffer
 // and answers where the text ends. 512 bytes hold every text.
-use decimal::put;
-use decimal::put_byte;
-use decimal::put_decimal;
-use decimal::put_numeral;
+use printing::put;
+use printing::put_byte;
+use printing::put_decimal;
+use printing::put_numeral;
 use definition::Ran;
 use definition::places;
 ghost use mathlib.Core.Path.{_≡_};

@@ -2,8 +2,8 @@ use mathlib.Core.List.{[], _∷_}
 use native.Mathlib.Omega.{arith}
 use lib.ListN.{take}
 use mir.Facts.{toZ-ofZ}
-use Rattle.decimal.specs.Decimal.{numeral}
-use Rattle.decimal.proofs.Laws.{put-then}
+use Rattle.printing.specs.Decimal.{numeral}
+use Rattle.printing.proofs.Laws.{put-then}
 use borrow.Author.Needs.{needs}
 use Rattle.report.proofs.put_field.Statement.{statement}
 use Rattle.report.proofs.put_field.Tie as tie

@@ -2,9 +2,9 @@ use mathlib.Core.List.{[], _∷_, _++_}
 use native.Mathlib.Omega.{arith}
 use lib.ListN.{take, length-append}
 use Rattle.io.proofs.Counting.{counts}
-use Rattle.decimal.specs.Decimal.{decimal}
+use Rattle.printing.specs.Decimal.{decimal}
 use Rattle.report.specs.Text.{refusalText, refusedName}
-use Rattle.decimal.proofs.Laws.{put-then}
+use Rattle.printing.proofs.Laws.{put-then}
 use Rattle.report.proofs.Laws.{refusal-fits}
 use borrow.Author.Needs.{needs}
 use Rattle.report.proofs.put_refusal.Statement.{statement}

@@ -3,7 +3,7 @@ use native.Mathlib.Omega.{arith}
 use lib.ListN.{take, length-append}
 use Rattle.io.proofs.Counting.{counts}
 use Rattle.report.specs.Text.{answerText, registersText, cellsText, runText}
-use Rattle.decimal.proofs.Laws.{put-then}
+use Rattle.printing.proofs.Laws.{put-then}
 use Rattle.report.proofs.Laws.{run-fits}
 use borrow.Author.Needs.{needs}
 use Rattle.report.proofs.put_run.Statement.{statement}

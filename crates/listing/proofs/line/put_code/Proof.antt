@@ -3,7 +3,7 @@ use mathlib.Core.List.{[]}
 use native.Mathlib.Omega.{arith}
 use lib.ListN.{getD, length-append}
 use mir.Facts.{toZ-ofZ}
-use Rattle.decimal.proofs.Laws.{put-then}
+use Rattle.printing.proofs.Laws.{put-then}
 use Rattle.definition.specs.Encoding.{opNumber}
 use Rattle.assembly.specs.Grammar.{mnemonics}
 use Rattle.listing.specs.Listing.{codeText}

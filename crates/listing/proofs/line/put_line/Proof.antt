@@ -2,7 +2,7 @@ use Rattle.io.proofs.Counting.{counts}
 use mathlib.Core.List.{[], _∷_}
 use native.Mathlib.Omega.{arith}
 use lib.ListN.{length-append}
-use Rattle.decimal.proofs.Laws.{put-then}
+use Rattle.printing.proofs.Laws.{put-then}
 use Rattle.listing.specs.Listing.{lineText}
 use Rattle.listing.specs.Pieces.{cellText}
 use Rattle.listing.proofs.Pieces.{content-short}

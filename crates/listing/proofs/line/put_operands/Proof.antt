@@ -3,7 +3,7 @@ use mathlib.Core.List.{[], _∷_, _++_, append-nil}
 use native.Mathlib.Omega.{arith}
 use lib.ListN.{take, length-append}
 use mir.Facts.{toZ-ofZ}
-use Rattle.decimal.proofs.Laws.{put-then}
+use Rattle.printing.proofs.Laws.{put-then}
 use Rattle.definition.specs.Encoding.{mode₁, mode₂, reg₁, reg₂}
 use Rattle.listing.specs.Listing.{operandText}
 use Rattle.listing.proofs.Pieces.{operand-short, operands-none, operands-one, operands-two}

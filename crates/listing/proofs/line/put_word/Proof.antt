@@ -1,8 +1,8 @@
 use mathlib.Core.List.{[], _∷_}
 use native.Mathlib.Omega.{arith}
 use mir.Facts.{toZ-ofZ}
-use Rattle.decimal.specs.Decimal.{numeral}
-use Rattle.decimal.proofs.Laws.{put-then, numeral-short}
+use Rattle.printing.specs.Decimal.{numeral}
+use Rattle.printing.proofs.Laws.{put-then, numeral-short}
 use borrow.Author.Needs.{needs}
 use Rattle.listing.proofs.line.put_word.Statement.{statement}
 use Rattle.listing.proofs.line.put_word.Tie as tie

@@ -3,8 +3,8 @@ use mathlib.Core.List.{[], _∷_}
 use native.Mathlib.Omega.{arith}
 use lib.ListN.{take}
 use mir.Facts.{toZ-ofZ}
-use Rattle.decimal.specs.Decimal.{numeral}
-use Rattle.decimal.proofs.Laws.{put-then, numeral-short}
+use Rattle.printing.specs.Decimal.{numeral}
+use Rattle.printing.proofs.Laws.{put-then, numeral-short}
 use Rattle.listing.proofs.Pieces.{index-minus, index-plus}
 use borrow.Author.Needs.{needs}
 use Rattle.listing.proofs.operand.put_index.Statement.{statement}

@@ -1,7 +1,7 @@
 use native.Mathlib.Omega.{arith}
 use lib.ListN.{take, length-append}
 use mir.Facts.{toZ-ofZ}
-use Rattle.decimal.proofs.Laws.{put-then, numeral-short}
+use Rattle.printing.proofs.Laws.{put-then, numeral-short}
 use Rattle.listing.specs.Listing.{indexText, registerText}
 use Rattle.listing.proofs.Pieces.{register-short, inner-direct, inner-indirect, inner-indexed}
 use borrow.Author.Needs.{needs}

@@ -2,7 +2,7 @@ use mathlib.Core.List.{[], _∷_, _++_}
 use native.Mathlib.Omega.{arith}
 use lib.ListN.{take, length-append}
 use mir.Facts.{toZ-ofZ}
-use Rattle.decimal.proofs.Laws.{put-then, numeral-short}
+use Rattle.printing.proofs.Laws.{put-then, numeral-short}
 use Rattle.listing.specs.Pieces.{innerText}
 use Rattle.listing.proofs.Pieces.{inner-short, operand-immediate, operand-register, operand-square}
 use borrow.Author.Needs.{needs}

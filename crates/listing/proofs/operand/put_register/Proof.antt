@@ -2,7 +2,7 @@ use mathlib.Core.Path.{ap, _∙_}
 use mathlib.Core.List.{[], _∷_}
 use native.Mathlib.Omega.{arith}
 use lib.ListN.{take, getD}
-use Rattle.decimal.proofs.Laws.{put-then}
+use Rattle.printing.proofs.Laws.{put-then}
 use Rattle.assembly.specs.Grammar.{registers}
 use Rattle.listing.specs.Names.{spelling}
 use Rattle.listing.proofs.Pieces.{register-is, register-small}

@@ -4,7 +4,7 @@ ghost use mathlib.Core.Path.{_≡_};
 ghost use mathlib.Core.List.{[], _∷_, _++_};
 ghost use Prim.Native.Nat.{_+_, _≤_};
 ghost use lib.ListN.{length, take, drop};
-ghost use Rattle.decimal.specs.Decimal.{decimal, numeral};
+ghost use Rattle.printing.specs.Decimal.{decimal, numeral};
 
 pub fn put_byte(out: &mut [u8], at: usize, b: u8) -> usize
     requires { ⌜ at + 1 ≤ length (now out) ⌝ }

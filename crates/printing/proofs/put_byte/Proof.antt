@@ -4,8 +4,8 @@ use lib.Seq.{take-suc-set, drop-set-lt}
 use mathlib.Core.Path.{refl}
 use borrow.Author.Needs.{needs}
 use native.Mathlib.Omega.{arith}
-use Rattle.decimal.proofs.put_byte.Statement.{statement}
-use Rattle.decimal.proofs.put_byte.Tie as tie
+use Rattle.printing.proofs.put_byte.Statement.{statement}
+use Rattle.printing.proofs.put_byte.Tie as tie
 
 slice-write-out : tie.Need-slice-write-out
 slice-write-out c = search needs

@@ -4,9 +4,9 @@ use Prim.Native.Nat.{_+_, _≤_, _-_}
 use native.Mathlib.Omega.{arith}
 use lib.ListN.{length, take, drop, getD}
 use borrow.Author.Needs.{needs}
-use Rattle.decimal.proofs.Laws.{put-next, put-last, byte-next, drop-end, kept-then}
-use Rattle.decimal.proofs.put.Statement.{statement}
-use Rattle.decimal.proofs.put.Tie as tie
+use Rattle.printing.proofs.Laws.{put-next, put-last, byte-next, drop-end, kept-then}
+use Rattle.printing.proofs.put.Statement.{statement}
+use Rattle.printing.proofs.put.Tie as tie
 
 abbrev Inv-loop : tie.InvT-loop
 Inv-loop out₀ at s k₀ i₀ out k i =

@@ -13,7 +13,7 @@ use lib.Seq.{drop-cons, drop-length, drop-drop}
 use borrow.Author.Tests.{lt-ltb, le-ltb}
 use Rattle.io.specs.Digits.{glyph, digits, Fewest}
 use Rattle.word.proofs.Laws.{ltb-elim, pos-sign}
-use Rattle.decimal.specs.Decimal.{decimalIn, decimal, numeral}
+use Rattle.printing.specs.Decimal.{decimalIn, decimal, numeral}
 
 -- ---- a text grows
 

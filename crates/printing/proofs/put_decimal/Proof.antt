@@ -3,10 +3,10 @@ use mathlib.Core.List.{List, _++_}
 use Prim.Native.Nat.{ℕ, _+_}
 use native.Mathlib.Omega.{arith}
 use lib.ListN.{length, take}
-use Rattle.decimal.proofs.Laws.{decimal-is}
+use Rattle.printing.proofs.Laws.{decimal-is}
 use borrow.Author.Needs.{needs}
-use Rattle.decimal.proofs.put_decimal.Statement.{statement}
-use Rattle.decimal.proofs.put_decimal.Tie as tie
+use Rattle.printing.proofs.put_decimal.Statement.{statement}
+use Rattle.printing.proofs.put_decimal.Tie as tie
 
 decimal-requires : tie.Need-decimal-requires
 decimal-requires c κs = search needs

@@ -3,11 +3,11 @@ use mathlib.Core.List.{[], _∷_}
 use native.Mathlib.Omega.{arith}
 use lib.ListN.{length, take}
 use mir.Facts.{toZ-ofZ}
-use Rattle.decimal.specs.Decimal.{decimal, numeral}
-use Rattle.decimal.proofs.Laws.{put-then, kept-then, minus-text, plus-text, numeral-pos}
+use Rattle.printing.specs.Decimal.{decimal, numeral}
+use Rattle.printing.proofs.Laws.{put-then, kept-then, minus-text, plus-text, numeral-pos}
 use borrow.Author.Needs.{needs}
-use Rattle.decimal.proofs.put_numeral.Statement.{statement}
-use Rattle.decimal.proofs.put_numeral.Tie as tie
+use Rattle.printing.proofs.put_numeral.Statement.{statement}
+use Rattle.printing.proofs.put_numeral.Tie as tie
 
 minus : (c : tie.Then1) → numeral (c .before .before .before .before .args .v) ≡ 45 ∷ decimal (c .before .before .magnitude .result)
 minus c =
