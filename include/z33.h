@@ -4,7 +4,7 @@
  * counts); the input queue and the output record, as bytes. Each comes as a pointer and a count of elements (numbers or bytes, not
  * cells); where the count is 0 the pointer may be null. Buffers of one call must not overlap.
  *
- * An answer begins with refusal and place. refusal 0: the call was done. Otherwise it is the number of what was wrong (1 to 11), place
+ * An answer begins with refusal and place. refusal 0: the call was done. Otherwise it is the number of what was wrong (below), place
  * says where, every other field is 0 and nothing that was lent has changed.
  *
  * How a machine is booted. z33_fresh leaves a row of zeros, so the machine is in user mode, and z33_set_register sets a, b, pc and sp but
@@ -130,7 +130,9 @@ enum {
     Z33_REFUSAL_CODE = 11,        /* not 0 to 5 */
     Z33_REFUSAL_TEXT = 13,        /* place: the line outside the grammar, with round brackets over 32 deep, or past the image */
     Z33_REFUSAL_LABEL = 14,       /* place: the line whose label is missing, set again or beyond 256 */
-    Z33_REFUSAL_VALUE = 15        /* place: the line with a value out of range */
+    Z33_REFUSAL_VALUE = 15,       /* place: the line with a value out of range */
+    Z33_REFUSAL_EMPTY_CELL = 16,  /* the image has an empty cell, and a listing was not allowed it */
+    Z33_REFUSAL_TEXT_ROOM = 17    /* the text buffer is too short */
 };
 
 typedef struct { uint64_t refusal, place; } z33_done;
@@ -172,6 +174,11 @@ z33_raised z33_raise(int64_t *cells, size_t cells_len, int64_t *row, size_t row_
 /* A program written as text, into the front of the image: one cell a line, the room behind is kept. count is of cells; place is the line,
  * from 1. Refusals: 9 the image is no whole number of cells, then 13 to 15, each with its lowest line. */
 z33_counted z33_assemble(const uint8_t *text, size_t text_len, int64_t *image, size_t image_len);
+
+/* An image as text that z33_assemble takes, one line a cell, into the front of the buffer: the room behind is kept. count is of bytes. An
+ * empty cell is written `.word 0`, which reads back as word 0, and only where allow_empty is not 0. Refusals, all with place 0: 9 the image
+ * is no whole number of cells or holds a damaged one, then 16 and 17. */
+z33_counted z33_list(const int64_t *image, size_t image_len, uint8_t *text, size_t text_len, uint64_t allow_empty);
 
 /* Fills an image with sound instructions drawn from a seed; count is of cells. Refusal 9: the image is no whole number of cells. */
 z33_counted z33_exercise(int64_t *image, size_t image_len, uint64_t seed);

@@ -73,6 +73,8 @@ IS(Z33_REFUSAL_CODE, 11);
 IS(Z33_REFUSAL_TEXT, 13);
 IS(Z33_REFUSAL_LABEL, 14);
 IS(Z33_REFUSAL_VALUE, 15);
+IS(Z33_REFUSAL_EMPTY_CELL, 16);
+IS(Z33_REFUSAL_TEXT_ROOM, 17);
 
 /* The answers: numbers of 64 bits one behind the other. */
 IS(sizeof(z33_done), 2 * 8);

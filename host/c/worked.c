@@ -80,6 +80,13 @@ static void as_text(void) {
     counted = z33_assemble((const uint8_t *)text, sizeof text - 1, image, 3);
     due(counted.refusal == Z33_REFUSAL_TEXT && counted.place == 2 && counted.count == 0 && image[0] == 202, "one cell for two lines");
     due(z33_assemble(NULL, 0, NULL, 0).refusal == 0, "nothing into nothing");
+    uint8_t listed[sizeof text];
+    memset(listed, 7, sizeof listed);
+    counted = z33_list(image, 6, listed, sizeof listed, 0);
+    due(counted.refusal == 0 && counted.place == 0 && counted.count == sizeof text - 1, "the image was not listed");
+    due(memcmp(listed, text, sizeof text - 1) == 0 && listed[sizeof text - 1] == 7, "the listing is another text, or the room behind has changed");
+    due(z33_list(image, 6, listed, sizeof text - 2, 0).refusal == Z33_REFUSAL_TEXT_ROOM, "a buffer one byte short");
+    due(z33_list(NULL, 0, NULL, 0, 0).refusal == 0, "nothing listed into nothing");
 }
 
 static void null_is_refused(void) {

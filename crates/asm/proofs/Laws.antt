@@ -20,7 +20,8 @@ use Rattle.expression.proofs.Spans.{front-past, by-bool}
 use Rattle.assembly.specs.Assemble.{Assembled, cells, refuses, assemble, answered, assembleCall}
 use Rattle.assembly.proofs.Cells.{cells-fit}
 use Rattle.report.specs.Text.{field, fields, line}
-use Rattle.report.proofs.Laws.{decimal-short, numeral-short, fields-short, three-of}
+use Rattle.printing.proofs.Laws.{decimal-short, numeral-short}
+use Rattle.report.proofs.Laws.{fields-short, three-of}
 use Rattle.asm.specs.Output.{numbers, cellLine, cellLines, imageText, refusalText, refusedName, linesFrom, lineAt, numberText, expectedText, grammarText, labelText, valueText, messageText, noCells, outputOf, errorOf, output, errorText, tooLongText, PartRead}
 
 -- how long a list of one number is

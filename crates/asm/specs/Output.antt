@@ -14,7 +14,8 @@ use Rattle.definition.specs.Calls.{Called}
 use Rattle.expression.specs.Reader.{front}
 use Rattle.expression.specs.Table.{isInner, nextLine}
 use Rattle.assembly.specs.Assemble.{assembleCall}
-use Rattle.report.specs.Text.{decimal, line}
+use Rattle.printing.specs.Decimal.{decimal}
+use Rattle.report.specs.Text.{line}
 
 -- ---- standard output
 

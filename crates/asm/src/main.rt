@@ -117,7 +117,7 @@ fn put_assembled(text: &[u8], out: &mut [u8], err: &mut [u8]) -> Lengths
     ensures { λ r. ⌜ Counts (r .out) (now (out .exit)) × Counts (r .err) (now (err .exit)) ⌝ }
 {
     if text.len() > 131072 {
-        let n = report::put(err, 0, b"asm: the text is longer than 131072 bytes\n");
+        let n = printing::put(err, 0, b"asm: the text is longer than 131072 bytes\n");
         return Lengths { out: 0, err: n };
     }
     let mut image = no_cells();

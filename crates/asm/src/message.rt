@@ -31,7 +31,7 @@ pub fn put_line_read(err: &mut [u8], at: usize, text: &[u8], place: u64) -> usiz
 {
     let from = line_start(text, place);
     let end = expression::table::skip_inner(text, from);
-    report::put(err, at, &text[from..end])
+    printing::put(err, at, &text[from..end])
 }
 
 // `line ` and its number
@@ -40,8 +40,8 @@ pub fn put_number(err: &mut [u8], at: usize, place: u64) -> usize
     ensures { λ r. ⌜ take r (now (err .exit)) ≡ take at (now (err .entry)) ++ numberText place ⌝ }
     ensures { λ r. ⌜ r ≡ at + length (numberText place) ⌝ }
 {
-    let i = report::put(err, at, b"line ");
-    report::put_decimal(err, i, place)
+    let i = printing::put(err, at, b"line ");
+    printing::put_decimal(err, i, place)
 }
 
 pub fn put_expected(err: &mut [u8], at: usize, number: u64) -> usize
@@ -50,20 +50,20 @@ pub fn put_expected(err: &mut [u8], at: usize, number: u64) -> usize
     ensures { λ r. ⌜ r ≡ at + length (expectedText number) ⌝ }
 {
     if number == 13 {
-        return report::put(
+        return printing::put(
             err,
             at,
             b"expected is [label:] mnemonic operands, or .word value, as the grammar has it: brackets at most 32 deep, 10000 lines\n",
         );
     }
     if number == 14 {
-        return report::put(
+        return printing::put(
             err,
             at,
             b"expected is a label that one line sets and no more, of at most 256\n",
         );
     }
-    report::put(
+    printing::put(
         err,
         at,
         b"expected are values within 64 bits, and in square brackets an address, 0 to 4294967295\n",
@@ -76,10 +76,10 @@ pub fn put_message(err: &mut [u8], text: &[u8], number: u64, place: u64) -> usiz
     ensures { λ r. ⌜ Counts r (now (err .exit)) ⌝ }
 {
     let i = put_number(err, 0, place);
-    let i = report::put(err, i, b": read was: ");
+    let i = printing::put(err, i, b": read was: ");
     let i = put_line_read(err, i, text, place);
-    let i = report::put_byte(err, i, 10);
+    let i = printing::put_byte(err, i, 10);
     let i = put_number(err, i, place);
-    let i = report::put(err, i, b": ");
+    let i = printing::put(err, i, b": ");
     put_expected(err, i, number)
 }

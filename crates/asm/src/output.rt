@@ -12,7 +12,7 @@ pub fn put_cell(out: &mut [u8], at: usize, image: &[i64], k: usize) -> usize
     ensures { λ r. ⌜ take r (now (out .exit)) ≡ take at (now (out .entry)) ++ cellLine k (now (image .entry)) ⌝ }
     ensures { λ r. ⌜ r ≡ at + length (cellLine k (now (image .entry))) ⌝ }
 {
-    let i = report::put_decimal(out, at, k as u64);
+    let i = printing::put_decimal(out, at, k as u64);
     let from = 3 * k;
     let end = from + 3;
     report::put_line(out, i, b"", &image[from..end])
@@ -24,7 +24,7 @@ pub fn put_image(out: &mut [u8], image: &[i64], count: usize) -> usize
     ensures { λ r. ⌜ take r (now (out .exit)) ≡ imageText count (now (image .entry)) ⌝ }
     ensures { λ r. ⌜ Counts r (now (out .exit)) ⌝ }
 {
-    let mut at = report::put(out, 0, b"start,0,0,0\n");
+    let mut at = printing::put(out, 0, b"start,0,0,0\n");
     let mut k: usize = 0;
     while k < count {
         at = put_cell(out, at, image, k);
@@ -39,8 +39,8 @@ pub fn put_refusal(out: &mut [u8], number: u64, place: u64) -> usize
     ensures { λ r. ⌜ take r (now (out .exit)) ≡ refusalText number place ⌝ }
     ensures { λ r. ⌜ Counts r (now (out .exit)) ⌝ }
 {
-    let i = report::put(out, 0, b"refused");
+    let i = printing::put(out, 0, b"refused");
     let i = report::put_count(out, i, number);
     let i = report::put_count(out, i, place);
-    report::put_byte(out, i, 10)
+    printing::put_byte(out, i, 10)
 }

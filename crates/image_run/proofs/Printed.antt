@@ -15,7 +15,8 @@ use Rattle.decimal.specs.Decimal as D
 use Rattle.lines.specs.Grammar as G
 use Rattle.lines.proofs.Complete.{startOf}
 use Rattle.lines.proofs.Exact.{taken, broken-at}
-use Rattle.report.specs.Text.{decimalIn, decimal, numeral, refusalText}
+use Rattle.printing.specs.Decimal.{decimalIn, decimal, numeral}
+use Rattle.report.specs.Text.{refusalText}
 use Rattle.image_run.specs.Image.{imageText, printed}
 use Rattle.image_run.proofs.Laws.{refused-report, image-report}
 

@@ -19,7 +19,8 @@ use Rattle.definition.specs.Memory.{cell}
 use Rattle.lines.specs.Reader.{letter, openingByte, valueOf, digit, comma, minus, plain, within, following, next, startLine, cellLine, lineEnd, brokenLine, emptyCells, readText}
 use Rattle.lines.specs.Reader as R
 use Rattle.lines.proofs.Complete.{startOf}
-use Rattle.report.specs.Text.{decimalIn, numeral, fields, line, answerText, registersText, cellsText, runText}
+use Rattle.printing.specs.Decimal.{decimalIn, numeral}
+use Rattle.report.specs.Text.{fields, line, answerText, registersText, cellsText, runText}
 use Rattle.image_run.specs.Image.{imageRun, imageText, printed}
 use Rattle.image_run.proofs.Laws.{image-report}
 

@@ -4,7 +4,7 @@ use mathlib.Core.List.{List, [], _∷_, _++_}
 use Prim.Native.Nat.{ℕ}
 use Rattle.recorded.specs.declared.compare.Fault.{Fault}
 use Rattle.recorded.specs.declared.compare.Fault.the-variants as F
-use Rattle.report.specs.Text.{decimal}
+use Rattle.printing.specs.Decimal.{decimal}
 use Rattle.recorded_cases.specs.declared.state.State.{State}
 use Rattle.recorded_cases.specs.Case.{fails}
 

@@ -1,9 +1,9 @@
 // What a replay found, in one line of text: each function puts its text behind the first `at` bytes of out and answers where it ends.
 use crate::state::State;
 use crate::state::fails;
+use printing::put;
+use printing::put_decimal;
 use recorded::compare::Fault;
-use report::put;
-use report::put_decimal;
 ghost use mathlib.Core.Path.{_≡_};
 ghost use mathlib.Core.List.{_++_};
 ghost use Prim.Native.Nat.{_+_, _≤_};

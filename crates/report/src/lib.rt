@@ -2,48 +2,18 @@
 // and answers where the text ends. 512 bytes hold every text.
 use definition::Ran;
 use definition::places;
+use printing::put;
+use printing::put_byte;
+use printing::put_decimal;
+use printing::put_numeral;
 ghost use mathlib.Core.Path.{_≡_};
-ghost use mathlib.Core.List.{[], _∷_, _++_};
+ghost use mathlib.Core.List.{_++_};
 ghost use Prim.Native.Nat.{_+_, _≤_};
 ghost use lib.IntN.{pos};
 ghost use lib.ListN.{length, take};
 ghost use Rattle.definition.specs.Constants.{ROW};
 ghost use Rattle.io.specs.Counts.{Counts};
-ghost use Rattle.report.specs.Text.{decimal, field, line, answerText, registersText, cellsText, runText, refusalText};
-
-pub fn put_byte(out: &mut [u8], at: usize, b: u8) -> usize
-    requires { ⌜ at + 1 ≤ length (now out) ⌝ }
-    ensures { λ r. ⌜ take r (now (out .exit)) ≡ take at (now (out .entry)) ++ (b ∷ []) ⌝ }
-    ensures { λ r. ⌜ r ≡ at + 1 ⌝ }
-{
-    out[at] = b;
-    at + 1
-}
-
-pub fn put(out: &mut [u8], at: usize, s: &[u8]) -> usize
-    requires { ⌜ at + length (now s) ≤ length (now out) ⌝ }
-    ensures { λ r. ⌜ take r (now (out .exit)) ≡ take at (now (out .entry)) ++ now (s .entry) ⌝ }
-    ensures { λ r. ⌜ r ≡ at + length (now (s .entry)) ⌝ }
-{
-    let mut k = at;
-    let mut i: usize = 0;
-    while i < s.len() {
-        let b = s[i];
-        k = put_byte(out, k, b);
-        i += 1;
-    }
-    k
-}
-
-pub fn put_decimal(out: &mut [u8], at: usize, n: u64) -> usize
-    requires { ⌜ at + length (decimal n) ≤ length (now out) ⌝ }
-    ensures { λ r. ⌜ take r (now (out .exit)) ≡ take at (now (out .entry)) ++ decimal n ⌝ }
-    ensures { λ r. ⌜ r ≡ at + length (decimal n) ⌝ }
-{
-    let mut text = [0u8; 20];
-    let k = io::decimal(n, &mut text);
-    put(out, at, &text[..k])
-}
+ghost use Rattle.report.specs.Text.{field, line, answerText, registersText, cellsText, runText, refusalText};
 
 // A comma and a number that is not negative.
 pub fn put_count(out: &mut [u8], at: usize, n: u64) -> usize
@@ -61,13 +31,8 @@ pub fn put_field(out: &mut [u8], at: usize, v: i64) -> usize
     ensures { λ r. ⌜ take r (now (out .exit)) ≡ take at (now (out .entry)) ++ field v ⌝ }
     ensures { λ r. ⌜ r ≡ at + length (field v) ⌝ }
 {
-    let n = word::magnitude(v);
-    if word::lt(v, 0) {
-        let i = put_byte(out, at, 44);
-        let j = put_byte(out, i, 45);
-        return put_decimal(out, j, n);
-    }
-    put_count(out, at, n)
+    let i = put_byte(out, at, 44);
+    put_numeral(out, i, v)
 }
 
 // A name, its fields and a line end.

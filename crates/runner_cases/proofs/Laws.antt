@@ -9,7 +9,7 @@ use lib.ListN.{length, take, drop, length-drop, take-append-drop}
 use lib.Seq.{take-all}
 use borrow.Author.Tests.{eqb-true, eq-eqb, ne-eqb, le-leb, lt-leb}
 use Rattle.lines.specs.Reader.{State, step}
-use Rattle.report.specs.Text.{decimal}
+use Rattle.printing.specs.Decimal.{decimal}
 use Rattle.image_run.specs.Image.{printed}
 use Rattle.runner_cases.specs.declared.Tally.{Tally}
 use Rattle.runner_cases.specs.Cases.{lengthAt, inputAt, dueAt, endOf, sameText, passing, tally, counted, tallied, tallyOf, passedName, ofName, endsName, passedText, verdictText}

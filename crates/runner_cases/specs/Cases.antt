@@ -4,7 +4,7 @@ use mathlib.Core.List.{List, [], _∷_, _++_}
 use Prim.Native.Nat.{ℕ, zero, suc, _+_, _*_, _-_}
 use lib.ListN.{length, take, drop, getD}
 use lib.Dec.{ltb, leb, eqb}
-use Rattle.report.specs.Text.{decimal}
+use Rattle.printing.specs.Decimal.{decimal}
 use Rattle.image_run.specs.Image.{printed}
 use Rattle.runner_cases.specs.declared.Tally.{Tally}
 

@@ -127,11 +127,11 @@ fn put_passed(out: &mut [u8], t: Tally) -> usize
     ensures { λ r. ⌜ take r (now (out .exit)) ≡ passedText t ⌝ }
     ensures { λ r. ⌜ Counts r (now (out .exit)) ⌝ }
 {
-    let i = report::put(out, 0, b": passed ");
-    let i = report::put_decimal(out, i, t.passed);
-    let i = report::put(out, i, b" of ");
-    let i = report::put_decimal(out, i, t.seen);
-    report::put_byte(out, i, 10)
+    let i = printing::put(out, 0, b": passed ");
+    let i = printing::put_decimal(out, i, t.passed);
+    let i = printing::put(out, i, b" of ");
+    let i = printing::put_decimal(out, i, t.seen);
+    printing::put_byte(out, i, 10)
 }
 
 // Puts what is said of a file of n bytes at the front of out and answers its length.
@@ -143,7 +143,7 @@ fn put_verdict(out: &mut [u8], t: Tally, n: usize) -> usize
     if t.at == n {
         return put_passed(out, t);
     }
-    report::put(out, 0, b": ends within a case\n")
+    printing::put(out, 0, b": ends within a case\n")
 }
 
 // Writes the file's name and the verdict. No contract can say what is written: `replay` has the numbers and `put_verdict` the text.

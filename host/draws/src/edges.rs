@@ -70,7 +70,7 @@ pub const WORDS: [i64; 60] = [
 ];
 
 /// Addresses in and just outside the cells.
-const PLACES: [i64; 14] = [0, 1, 99, 100, 101, 102, 110, 111, 199, 200, 201, 9_998, 9_999, 10_000];
+pub const PLACES: [i64; 14] = [0, 1, 99, 100, 101, 102, 110, 111, 199, 200, 201, 9_998, 9_999, 10_000];
 
 pub fn word(rng: &mut Rng) -> i64 {
     match rng.below(8) {

@@ -2,6 +2,7 @@
 //! the original.
 
 pub mod edges;
+pub mod every;
 pub mod exercise;
 pub mod forms;
 pub mod rng;

@@ -27,6 +27,11 @@ pub fn cost(flat: Flat) -> Option<usize> {
     }
 }
 
+/// The original's own display of a cell.
+pub fn shown(flat: Flat) -> Option<String> {
+    decode(flat).map(|cell| cell.to_string())
+}
+
 pub(crate) fn decode([tag, first, second]: Flat) -> Option<Cell> {
     match tag {
         TAG_EMPTY if first == 0 && second == 0 => Some(Cell::Empty),

@@ -10,5 +10,5 @@ mod row;
 
 include!(concat!(env!("OUT_DIR"), "/original.rs"));
 
-pub use encoding::{cost, is_sound, through_the_original};
+pub use encoding::{cost, is_sound, shown, through_the_original};
 pub use machine::{Judge, Raised, Ran, Step};

@@ -18,5 +18,7 @@ pub const CODE: u64 = 11;
 pub const TEXT: u64 = 13;
 pub const LABEL: u64 = 14;
 pub const VALUE: u64 = 15;
+pub const EMPTY_CELL: u64 = 16;
+pub const TEXT_ROOM: u64 = 17;
 /// The runner's. Place: the line.
 pub const LINE: u64 = 12;

@@ -78,6 +78,11 @@ pub fn assemble<'a>(text: impl Into<Option<&'a [u8]>>, image: impl Into<Option<&
     unsafe { c::z33_assemble(text, text_len, image, image_len) }
 }
 
+pub fn list<'a>(image: impl Into<Option<&'a [i64]>>, text: impl Into<Option<&'a mut [u8]>>, allow_empty: u64) -> Counted {
+    let ((image, image_len), (text, text_len)) = (show(image), lend(text));
+    unsafe { c::z33_list(image, image_len, text, text_len, allow_empty) }
+}
+
 pub fn exercise<'a>(image: impl Into<Option<&'a mut [i64]>>, seed: u64) -> Counted {
     let (image, image_len) = lend(image);
     unsafe { c::z33_exercise(image, image_len, seed) }

@@ -3,7 +3,7 @@
 mod calls;
 mod library;
 
-pub use calls::{assemble, deliver, drain, exercise, fresh, load, raise, read_cell, run, set_register};
+pub use calls::{assemble, deliver, drain, exercise, fresh, list, load, raise, read_cell, run, set_register};
 pub use library::Library;
 pub use z33_sys::{
     z33_cell as Cell, z33_counted as Counted, z33_done as Done, z33_drained as Drained, z33_raised as Raised, z33_ran as Ran,

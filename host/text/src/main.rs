@@ -1,7 +1,8 @@
 //! Programs written as text: the library held to an assembler written from document 02, to texts whose image is known by
-//! construction, and to answers written by hand.
+//! construction, and to answers written by hand; and images written as text, held to a lister written from document 02.
 
 mod directed;
+mod listed;
 mod made;
 mod plain;
 
@@ -33,6 +34,8 @@ fn main() {
     let directed = directed::run();
     let (texts, lines, changes) = made::run(20_000, 1);
     println!("text: {directed} written cases, {texts} made texts of {lines} lines, {changes} changed bytes: as they are due");
+    let listed::Seen { cells, done, image, empty, room } = listed::run(20_000);
+    println!("text: {done} listings of {cells} cells as they are due and assembled again, refused {image} by 9, {empty} by 16, {room} by 17");
 }
 
 /// The plain assembler and the library, on the same text and room.

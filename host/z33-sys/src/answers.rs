@@ -48,7 +48,7 @@ pub struct z33_counted {
     pub refusal: u64,
     /// Where what was refused is, or 0.
     pub place: u64,
-    /// How many cells were made.
+    /// How many cells were made, or bytes of text written.
     pub count: u64,
 }
 

@@ -67,6 +67,15 @@ unsafe extern "C" {
     /// Makes cells of a program written as text, one a line, at the front of the image.
     pub fn z33_assemble(text: *const u8, text_len: usize, image: *mut i64, image_len: usize) -> z33_counted;
 
+    /// Writes an image as text, one line a cell, into the front of the buffer; an empty cell only where `allow_empty` is not 0.
+    pub fn z33_list(
+        image: *const i64,
+        image_len: usize,
+        text: *mut u8,
+        text_len: usize,
+        allow_empty: u64,
+    ) -> z33_counted;
+
     /// Fills an image with sound instructions drawn from a seed.
     pub fn z33_exercise(image: *mut i64, image_len: usize, seed: u64) -> z33_counted;
 }

@@ -86,6 +86,15 @@ pub fn assemble(text: &[u8], image: &mut [i64]) -> Result<u64, Refusal> {
     Ok(counted.count)
 }
 
+/// Writes an image as text that [`assemble`] takes, one line a cell, at the front of the buffer, and tells how many bytes those were. An empty
+/// cell is written `.word 0`, which reads back as word 0: only where that loss is allowed.
+pub fn list(image: &[i64], text: &mut [u8], allow_empty: bool) -> Result<usize, Refusal> {
+    let (text, text_len) = (text.as_mut_ptr(), text.len());
+    let counted = unsafe { z33_sys::z33_list(image.as_ptr(), image.len(), text, text_len, allow_empty.into()) };
+    Refusal::check(counted.refusal, counted.place)?;
+    Ok(counted.count as usize)
+}
+
 /// Fills an image with sound instructions drawn from a seed, and tells how many cells that were.
 pub fn exercise(image: &mut [i64], seed: u64) -> Result<u64, Refusal> {
     let counted = unsafe { z33_sys::z33_exercise(image.as_mut_ptr(), image.len(), seed) };

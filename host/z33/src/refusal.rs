@@ -48,10 +48,14 @@ pub enum Refusal {
         /// The lowest such line, from 1.
         line: u64,
     },
+    /// 16: the image has an empty cell, and a listing was not allowed it.
+    EmptyCell,
+    /// 17: the text buffer is too short.
+    TextRoom,
 }
 
 impl Refusal {
-    /// Its number, 1 to 11 or 13 to 15.
+    /// Its number, 1 to 11 or 13 to 17.
     pub fn number(self) -> u64 {
         match self {
             Refusal::Cells => refusal::CELLS,
@@ -68,6 +72,8 @@ impl Refusal {
             Refusal::Text { .. } => refusal::TEXT,
             Refusal::Label { .. } => refusal::LABEL,
             Refusal::Value { .. } => refusal::VALUE,
+            Refusal::EmptyCell => refusal::EMPTY_CELL,
+            Refusal::TextRoom => refusal::TEXT_ROOM,
         }
     }
 
@@ -89,7 +95,9 @@ impl Refusal {
             refusal::TEXT => Refusal::Text { line: place },
             refusal::LABEL => Refusal::Label { line: place },
             refusal::VALUE => Refusal::Value { line: place },
-            _ => unreachable!("the library is proved to refuse with 1 to 11 and 13 to 15, and refused with {number}"),
+            refusal::EMPTY_CELL => Refusal::EmptyCell,
+            refusal::TEXT_ROOM => Refusal::TextRoom,
+            _ => unreachable!("the library is proved to refuse with 1 to 11 and 13 to 17, and refused with {number}"),
         })
     }
 }
@@ -114,6 +122,8 @@ impl fmt::Display for Refusal {
             Refusal::Text { line } => write!(f, "line {line} of the program cannot be read, or the image has no cell for it"),
             Refusal::Label { line } => write!(f, "line {line} of the program has a label that is missing, set again or one too many"),
             Refusal::Value { line } => write!(f, "line {line} of the program has a value out of range"),
+            Refusal::EmptyCell => write!(f, "the image has an empty cell, which the listing was not allowed"),
+            Refusal::TextRoom => write!(f, "the buffer is shorter than the image's text"),
         }
     }
 }

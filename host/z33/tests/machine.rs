@@ -62,6 +62,8 @@ fn each_refusal_has_its_number_and_words() {
             "the image has no whole cells, runs past the end or holds a damaged cell",
         ),
         (m.set_register(Register::Pc, -1), 10, "the register cannot be set to that"),
+        (lent::list(&[0; 3], &mut [0; 8], false).map(drop), 16, "the image has an empty cell, which the listing was not allowed"),
+        (lent::list(&[0; 3], &mut [0; 7], true).map(drop), 17, "the buffer is shorter than the image's text"),
     ];
     for (answer, number, words) in refusals {
         let refusal = answer.unwrap_err();

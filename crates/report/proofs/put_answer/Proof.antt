@@ -4,7 +4,8 @@ use native.Mathlib.Omega.{arith}
 use lib.IntN.{pos}
 use lib.ListN.{length, take, length-append}
 use Rattle.report.specs.Text.{field, fields, line, answerText, stopName, stepsName}
-use Rattle.report.proofs.Laws.{put-then, answer-pieces}
+use Rattle.printing.proofs.Laws.{put-then}
+use Rattle.report.proofs.Laws.{answer-pieces}
 use borrow.Author.Needs.{needs}
 use Rattle.report.proofs.put_answer.Statement.{statement}
 use Rattle.report.proofs.put_answer.Tie as tie

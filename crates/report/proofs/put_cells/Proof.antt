@@ -7,7 +7,8 @@ use lib.IntN.{ℤ}
 use Rattle.definition.specs.Constants.{ROW, ROW-A, ROW-B, ROW-WRITTEN}
 use Rattle.definition.specs.Calls.{at}
 use Rattle.report.specs.Text.{line, numbersFrom, cellsText, aName, bName, outName}
-use Rattle.report.proofs.Laws.{put-then, one-of, three-of}
+use Rattle.printing.proofs.Laws.{put-then}
+use Rattle.report.proofs.Laws.{one-of, three-of}
 use borrow.Author.Needs.{needs}
 use Rattle.report.proofs.put_cells.Statement.{statement}
 use Rattle.report.proofs.put_cells.Tie as tie

@@ -2,8 +2,8 @@ use mathlib.Core.Path.{ap}
 use mathlib.Core.List.{[], _∷_}
 use native.Mathlib.Omega.{arith}
 use lib.ListN.{length, take}
-use Rattle.report.specs.Text.{decimal}
-use Rattle.report.proofs.Laws.{put-then, numeral-pos}
+use Rattle.printing.specs.Decimal.{decimal}
+use Rattle.printing.proofs.Laws.{put-then, numeral-pos}
 use borrow.Author.Needs.{needs}
 use Rattle.report.proofs.put_count.Statement.{statement}
 use Rattle.report.proofs.put_count.Tie as tie

@@ -7,7 +7,8 @@ use lib.ListN.{length, take, drop, getD, length-append}
 use borrow.Author.Needs.{needs}
 use Rattle.word.proofs.Laws.{back}
 use Rattle.report.specs.Text.{field, fields, line}
-use Rattle.report.proofs.Laws.{put-then, put-next, put-last, fields-next, fields-length, fields-end}
+use Rattle.printing.proofs.Laws.{put-then, put-next, put-last}
+use Rattle.report.proofs.Laws.{fields-next, fields-length, fields-end}
 use Rattle.report.proofs.put_line.Statement.{statement}
 use Rattle.report.proofs.put_line.Tie as tie
 

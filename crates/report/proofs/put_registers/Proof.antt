@@ -4,7 +4,8 @@ use lib.ListN.{take, length-append}
 use Rattle.definition.specs.Constants.{ROW-PC, ROW-SP, ROW-SR, ROW-CYCLES}
 use Rattle.definition.specs.Calls.{at}
 use Rattle.report.specs.Text.{line, registersText, cyclesName, regsName}
-use Rattle.report.proofs.Laws.{put-then, one-of, three-of}
+use Rattle.printing.proofs.Laws.{put-then}
+use Rattle.report.proofs.Laws.{one-of, three-of}
 use borrow.Author.Needs.{needs}
 use Rattle.report.proofs.put_registers.Statement.{statement}
 use Rattle.report.proofs.put_registers.Tie as tie

@@ -3,7 +3,8 @@ use native.Mathlib.Omega.{arith}
 use lib.ListN.{take, length-append}
 use Rattle.io.proofs.Counting.{counts}
 use Rattle.report.specs.Text.{answerText, registersText, cellsText, runText}
-use Rattle.report.proofs.Laws.{put-then, run-fits}
+use Rattle.printing.proofs.Laws.{put-then}
+use Rattle.report.proofs.Laws.{run-fits}
 use borrow.Author.Needs.{needs}
 use Rattle.report.proofs.put_run.Statement.{statement}
 use Rattle.report.proofs.put_run.Tie as tie

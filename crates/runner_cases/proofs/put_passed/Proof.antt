@@ -1,6 +1,6 @@
 use native.Mathlib.Omega.{arith}
 use Rattle.io.proofs.Counting.{counts}
-use Rattle.report.proofs.Laws.{decimal-short}
+use Rattle.printing.proofs.Laws.{decimal-short}
 use Rattle.runner_cases.proofs.Laws.{passed-put}
 use borrow.Author.Needs.{needs}
 use Rattle.runner_cases.proofs.put_passed.Statement.{statement}

@@ -3,7 +3,7 @@ use mathlib.Core.List.{List, []}
 use Prim.Native.Nat.{_+_, _-_, _≤_}
 use native.Mathlib.Omega.{arith}
 use lib.ListN.{length, drop}
-use Rattle.report.proofs.Laws.{drop-end}
+use Rattle.printing.proofs.Laws.{drop-end}
 use Rattle.asm.specs.Output.{linesFrom}
 use Rattle.asm.proofs.Laws.{lines-next, lines-here, lines-none}
 use borrow.Author.Needs.{needs}

@@ -21,7 +21,7 @@ same-length c = search needs
 
 returns : tie.Need-returns
 unfolding grammarText
-returns c = rw (expected-13 (c .before .before .before .before .before .before .before .args .number) (c .before .before .before .before .before .if1 .taken)) (c .before .before .put .ensures)
+returns c = rw (expected-13 (c .before .before .before .before .before .before .before .args .number) (c .before .before .before .before .before .if1 .taken)) (c .before .before .put .ensures .0, c .before .before .put .ensures .1 .0)
 
 slice-aggregate-put-2 : tie.Need-slice-aggregate-put-2
 slice-aggregate-put-2 c = search needs
@@ -35,7 +35,7 @@ same-length-2 c = search needs
 
 returns-2 : tie.Need-returns-2
 unfolding labelText
-returns-2 c = rw (expected-14 (c .before .before .before .before .before .before .before .before .args .number) (c .before .before .before .before .before .if2 .taken)) (c .before .before .put2 .ensures)
+returns-2 c = rw (expected-14 (c .before .before .before .before .before .before .before .before .args .number) (c .before .before .before .before .before .if2 .taken)) (c .before .before .put2 .ensures .0, c .before .before .put2 .ensures .1 .0)
 
 slice-aggregate-put-3 : tie.Need-slice-aggregate-put-3
 slice-aggregate-put-3 c = search needs
@@ -49,7 +49,7 @@ same-length-3 c = search needs
 
 returns-3 : tie.Need-returns-3
 unfolding valueText
-returns-3 c = rw (expected-15 (c .before .before .before .before .before .before .before .before .args .number) (c .before .before .before .before .before .before .if1 .left) (c .before .before .before .before .before .if2 .left)) (c .before .before .put3 .ensures)
+returns-3 c = rw (expected-15 (c .before .before .before .before .before .before .before .before .args .number) (c .before .before .before .before .before .before .if1 .left) (c .before .before .before .before .before .if2 .left)) (c .before .before .put3 .ensures .0, c .before .before .put3 .ensures .1 .0)
 
 pub put-expected-spec : {M : Type 1} → statement M
 put-expected-spec =

@@ -33,7 +33,7 @@ same-length c = search needs
 
 returns : tie.Need-returns
 unfolding lineAt
-returns c = let e = between isInner (c .before .before .before .before .before .before .before .before .before .args .text .now) (c .before .before .before .before .before .before .line-start .result) (c .before .before .before .before .before .skip-inner .result) (c .before .before .before .before .before .skip-inner .ensures .on) (c .before .before .before .before .before .skip-inner .ensures .within) (c .before .before .before .before .before .skip-inner .ensures .text) ∙ ap (front isInner) (c .before .before .before .before .before .before .line-start .ensures .text) in rw e at (c .before .before .put .ensures)
+returns c = let e = between isInner (c .before .before .before .before .before .before .before .before .before .args .text .now) (c .before .before .before .before .before .before .line-start .result) (c .before .before .before .before .before .skip-inner .result) (c .before .before .before .before .before .skip-inner .ensures .on) (c .before .before .before .before .before .skip-inner .ensures .within) (c .before .before .before .before .before .skip-inner .ensures .text) ∙ ap (front isInner) (c .before .before .before .before .before .before .line-start .ensures .text) in (rw e at (c .before .before .put .ensures .0), rw e at (c .before .before .put .ensures .1 .0))
 
 pub put-line-read-spec : {M : Type 1} → statement M
 put-line-read-spec =

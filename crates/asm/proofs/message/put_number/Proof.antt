@@ -1,7 +1,7 @@
 use native.Mathlib.Omega.{arith}
 use lib.ListN.{length-append, take}
-use Rattle.report.specs.Text.{decimal}
-use Rattle.report.proofs.Laws.{put-then}
+use Rattle.printing.specs.Decimal.{decimal}
+use Rattle.printing.proofs.Laws.{put-then}
 use Rattle.asm.specs.Output.{numberText, lineName}
 use borrow.Author.Needs.{needs}
 use Rattle.asm.proofs.message.put_number.Statement.{statement}

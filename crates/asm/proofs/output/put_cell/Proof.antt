@@ -2,8 +2,9 @@ use mathlib.Core.List.{[]}
 use native.Mathlib.Omega.{arith}
 use lib.ListN.{length-append, take}
 use Rattle.definition.specs.Memory.{cellAt}
-use Rattle.report.specs.Text.{decimal, line}
-use Rattle.report.proofs.Laws.{put-then}
+use Rattle.printing.specs.Decimal.{decimal}
+use Rattle.report.specs.Text.{line}
+use Rattle.printing.proofs.Laws.{put-then}
 use Rattle.asm.specs.Output.{numbers, cellLine}
 use Rattle.asm.proofs.Laws.{three-at}
 use borrow.Author.Needs.{needs}

@@ -4,8 +4,9 @@ use Prim.Native.Nat.{ℕ, _+_, _*_, _-_, _≤_}
 use native.Mathlib.Omega.{arith}
 use lib.ListN.{length, take}
 use Rattle.io.proofs.Counting.{counts}
-use Rattle.report.specs.Text.{line, fields, numeral, decimalIn}
-use Rattle.report.proofs.Laws.{put-next, put-last}
+use Rattle.printing.specs.Decimal.{numeral, decimalIn}
+use Rattle.report.specs.Text.{line, fields}
+use Rattle.printing.proofs.Laws.{put-next, put-last}
 use Rattle.asm.specs.Output.{cellLine, cellLines, imageText}
 use Rattle.asm.proofs.Laws.{cell-short, cells-next, cells-end}
 use borrow.Author.Needs.{needs}

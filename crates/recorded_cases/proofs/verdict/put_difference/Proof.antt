@@ -2,8 +2,8 @@ use mathlib.Core.List.{[], _++_}
 use native.Mathlib.Omega.{arith}
 use lib.ListN.{take, length-append}
 use Rattle.io.proofs.Counting.{counts}
-use Rattle.report.specs.Text.{decimal}
-use Rattle.report.proofs.Laws.{put-then, decimal-short}
+use Rattle.printing.specs.Decimal.{decimal}
+use Rattle.printing.proofs.Laws.{put-then, decimal-short}
 use Rattle.recorded_cases.specs.Verdict.{differenceText, faultText, caseName, lineName, colon}
 use borrow.Author.Needs.{needs}
 use Rattle.recorded_cases.proofs.verdict.put_difference.Statement.{statement}
@@ -11,8 +11,8 @@ use Rattle.recorded_cases.proofs.verdict.put_difference.Tie as tie
 use Rattle.recorded_cases.proofs.verdict.put_difference.Reads as reads
 use Rattle.recorded_cases.proofs.verdict.put_difference.Lts as lts
 use Rattle.recorded_cases.proofs.verdict.put_fault.Reads as put-fault-reads
-use Rattle.report.proofs.put.Reads as put-reads
-use Rattle.report.proofs.put_decimal.Reads as put-decimal-reads
+use Rattle.printing.proofs.put.Reads as put-reads
+use Rattle.printing.proofs.put_decimal.Reads as put-decimal-reads
 
 -- src/verdict.rt:45:25
 slice-aggregate-put : tie.Need-slice-aggregate-put

@@ -2,16 +2,16 @@ use mathlib.Core.List.{[], _++_}
 use native.Mathlib.Omega.{arith}
 use lib.ListN.{take, length-append}
 use Rattle.io.proofs.Counting.{counts}
-use Rattle.report.specs.Text.{decimal}
-use Rattle.report.proofs.Laws.{put-then, decimal-short}
+use Rattle.printing.specs.Decimal.{decimal}
+use Rattle.printing.proofs.Laws.{put-then, decimal-short}
 use Rattle.recorded_cases.specs.Verdict.{numbersText, casesName, callsName}
 use borrow.Author.Needs.{needs}
 use Rattle.recorded_cases.proofs.verdict.put_numbers.Statement.{statement}
 use Rattle.recorded_cases.proofs.verdict.put_numbers.Tie as tie
 use Rattle.recorded_cases.proofs.verdict.put_numbers.Reads as reads
 use Rattle.recorded_cases.proofs.verdict.put_numbers.Lts as lts
-use Rattle.report.proofs.put.Reads as put-reads
-use Rattle.report.proofs.put_decimal.Reads as put-decimal-reads
+use Rattle.printing.proofs.put.Reads as put-reads
+use Rattle.printing.proofs.put_decimal.Reads as put-decimal-reads
 
 -- src/verdict.rt:58:9
 put-decimal-requires : tie.Need-put-decimal-requires

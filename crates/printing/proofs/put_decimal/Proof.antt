@@ -3,10 +3,10 @@ use mathlib.Core.List.{List, _++_}
 use Prim.Native.Nat.{ℕ, _+_}
 use native.Mathlib.Omega.{arith}
 use lib.ListN.{length, take}
-use Rattle.report.proofs.Laws.{decimal-is}
+use Rattle.printing.proofs.Laws.{decimal-is}
 use borrow.Author.Needs.{needs}
-use Rattle.report.proofs.put_decimal.Statement.{statement}
-use Rattle.report.proofs.put_decimal.Tie as tie
+use Rattle.printing.proofs.put_decimal.Statement.{statement}
+use Rattle.printing.proofs.put_decimal.Tie as tie
 
 decimal-requires : tie.Need-decimal-requires
 decimal-requires c κs = search needs
@@ -26,7 +26,7 @@ same-length c = search needs
 
 returns : tie.Need-returns
 returns c = let d = c .before .before .before .before .before .decimal in let a = c .before .before .before .before .before .before .before .before .args in let e = d .ensures .1 .1 ∙ decimal-is (d .result) (a .n) (d .ensures .1 .0) (omega arith) in
-    (c .before .before .put .ensures .0 ∙ ap (λ (t : List ℕ). take (a .at) (a .out .now) ++ t) e, c .before .before .put .ensures .1 ∙ ap (λ (t : List ℕ). a .at + length t) e)
+    (c .before .before .put .ensures .0 ∙ ap (λ (t : List ℕ). take (a .at) (a .out .now) ++ t) e, (c .before .before .put .ensures .1 .0 ∙ ap (λ (t : List ℕ). a .at + length t) e, c .before .before .put .ensures .1 .1))
 
 pub put-decimal-spec : {M : Type 1} → statement M
 put-decimal-spec =

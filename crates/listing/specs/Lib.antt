@@ -1,0 +1,5 @@
+pub mod Listing
+pub mod Call
+pub mod Theorems
+pub mod Names
+pub mod Pieces
