@@ -136,7 +136,7 @@ enum {
 };
 
 typedef struct { uint64_t refusal, place; } z33_done;
-typedef struct { uint64_t refusal, place, stop, detail, steps; } z33_ran;
+typedef struct { uint64_t refusal, place, stop, detail, steps, empty; } z33_ran; /* empty: words that its steps took from empty cells */
 typedef struct { uint64_t refusal, place, count; } z33_drained;
 typedef struct { uint64_t refusal, place, count; } z33_counted;
 typedef struct { uint64_t refusal, place; int64_t tag, first, second; } z33_cell;
@@ -147,7 +147,8 @@ typedef struct { uint64_t refusal, place, stop, detail; } z33_raised; /* stop 0:
 /* Makes all cells empty and the row 0, whatever they held. */
 z33_done z33_fresh(int64_t *cells, size_t cells_len, int64_t *row, size_t row_len);
 
-/* Takes steps until one does not complete (stop 1 to 7) or budget of them have (stop 0). */
+/* Takes steps until one does not complete (stop 1 to 7) or budget of them have (stop 0). An empty cell, in memory or in a or b, reads as
+ * word 0; empty tells how often the completed steps took such a word, each time that one did. */
 z33_ran z33_run(int64_t *cells, size_t cells_len, uint8_t *queue, size_t queue_len,
                 uint8_t *output, size_t output_len, int64_t *row, size_t row_len, uint32_t budget);
 

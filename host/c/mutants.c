@@ -44,6 +44,11 @@ enum {
     OUTSIDE_STOPS,            /* run: ld of a cell outside is still stop 4 */
     NEGATIVE_TRAPS,           /* run: ld through a word that is no address is code 5 */
     CALL_UNPUSHED,            /* run: call with an operand outside has not pushed */
+    EMPTY_UNCOUNTED,          /* run: words from empty cells are not counted */
+    EMPTY_OF_STOPPED,         /* run: a step that stops counts one */
+    EMPTY_CARRIED,            /* run: an empty cell that ld carries counts */
+    EMPTY_ONCE,               /* run: swap's address counts once */
+    EMPTY_BEFORE_ENTRY,       /* run: what a step took before an exception does not count */
     RAISE_NO_CYCLE,           /* raise: no cycle is added */
     RAISE_KEEPS_I,            /* raise: code 0 leaves I set */
     EXERCISE_NEXT_SEED,       /* exercise: the cells of the next seed */
@@ -66,7 +71,13 @@ enum {
 };
 enum { I = Z33_SR_INTERRUPT_ENABLE, HANDLER = Z33_INTERRUPT_HANDLER };
 /* op * 36 + m1 * 6 + m2 */
-enum { CALL_DIRECT = 2 * 36 + 3 * 6, LD_DIRECT = 14 * 36 + 3 * 6 + 2, LD_INDIRECT = 14 * 36 + 4 * 6 + 2 };
+enum {
+    CALL_DIRECT = 2 * 36 + 3 * 6,
+    LD_REGISTER = 14 * 36 + 2 * 6 + 2,
+    LD_DIRECT = 14 * 36 + 3 * 6 + 2,
+    LD_INDIRECT = 14 * 36 + 4 * 6 + 2,
+    SWAP_INDIRECT = 30 * 36 + 4 * 6 + 2
+};
 
 z33_done whole_z33_fresh(int64_t *, size_t, int64_t *, size_t);
 z33_ran whole_z33_run(int64_t *, size_t, uint8_t *, size_t, uint8_t *, size_t, int64_t *, size_t, uint32_t);
@@ -146,6 +157,20 @@ static void step_after(int64_t *cells, size_t cells_len, int64_t *row, z33_ran *
     }
 }
 
+/* The count of one step, changed; the form is that of its instruction. */
+static void count_otherwise(int64_t form, const int64_t *cells, const int64_t *row, z33_ran *ran) {
+    int entered = ran->steps == 1 && row[PC] == HANDLER && cells[3 * 102 + 1] != 0;
+    int carried = form == LD_REGISTER && (row[Z33_ROW_A] == 0 || row[Z33_ROW_B] == 0);
+    switch (MUTANT) {
+    case EMPTY_UNCOUNTED: ran->empty = 0; break;
+    case EMPTY_OF_STOPPED: ran->empty += ran->stop >= 2 && ran->stop <= 5; break;
+    case EMPTY_CARRIED: ran->empty += ran->steps == 1 && carried; break;
+    case EMPTY_ONCE: ran->empty -= form == SWAP_INDIRECT && ran->empty > 1; break;
+    case EMPTY_BEFORE_ENTRY: if (entered) ran->empty = 0; break;
+    default: break;
+    }
+}
+
 z33_ran z33_run(int64_t *cells, size_t cells_len, uint8_t *queue, size_t queue_len,
                 uint8_t *output, size_t output_len, int64_t *row, size_t row_len, uint32_t budget) {
     z33_ran ran;
@@ -157,6 +182,7 @@ z33_ran z33_run(int64_t *cells, size_t cells_len, uint8_t *queue, size_t queue_l
         memcpy(before, row, sizeof before);
     }
     ran = whole_z33_run(cells, cells_len, queue, queue_len, output, output_len, row, row_len, 0);
+    int64_t form = ran.refusal == 0 ? form_at(cells, cells_len, before[PC]) : -1;
     if (ran.refusal == 0 && budget == 1 && read_otherwise(cells, cells_len, row, &ran)) {
         return ran;
     }
@@ -169,8 +195,11 @@ z33_ran z33_run(int64_t *cells, size_t cells_len, uint8_t *queue, size_t queue_l
         return ran;
     }
     step_after(cells, cells_len, row, &ran);
-    if (MUTANT == NEGATIVE_TRAPS && budget == 1 && ran.stop == 4 && form_at(cells, cells_len, before[PC]) == LD_INDIRECT) {
+    if (MUTANT == NEGATIVE_TRAPS && budget == 1 && ran.stop == 4 && form == LD_INDIRECT) {
         raise_5(cells, cells_len, row, &ran);
+    }
+    if (budget == 1) {
+        count_otherwise(form, cells, row, &ran);
     }
     switch (MUTANT) {
     case NO_CYCLES: row[CYCLES] = before[CYCLES]; break;

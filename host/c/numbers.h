@@ -78,7 +78,7 @@ IS(Z33_REFUSAL_TEXT_ROOM, 17);
 
 /* The answers: numbers of 64 bits one behind the other. */
 IS(sizeof(z33_done), 2 * 8);
-IS(sizeof(z33_ran), 5 * 8);
+IS(sizeof(z33_ran), 6 * 8);
 IS(sizeof(z33_drained), 3 * 8);
 IS(sizeof(z33_counted), 3 * 8);
 IS(sizeof(z33_cell), 5 * 8);
@@ -86,6 +86,7 @@ IS(sizeof(z33_raised), 4 * 8);
 IS(offsetof(z33_ran, stop), 2 * 8);
 IS(offsetof(z33_ran, detail), 3 * 8);
 IS(offsetof(z33_ran, steps), 4 * 8);
+IS(offsetof(z33_ran, empty), 5 * 8);
 IS(offsetof(z33_drained, count), 2 * 8);
 IS(offsetof(z33_counted, count), 2 * 8);
 IS(offsetof(z33_cell, tag), 2 * 8);

@@ -1,5 +1,5 @@
 /* Document 01's worked run from C, and buffers of length 0 that come as null pointers.
- * Prints the runner's seven lines; worked.txt holds what they must be. */
+ * Prints the runner's eight lines; worked.txt holds what they must be. */
 #include <inttypes.h>
 #include <stdio.h>
 #include <stdlib.h>
@@ -45,6 +45,7 @@ static void worked_run(void) {
     printf("a,%" PRId64 ",%" PRId64 ",%" PRId64 "\n", row[Z33_ROW_A], row[Z33_ROW_A + Z33_FIRST], row[Z33_ROW_A + Z33_SECOND]);
     printf("b,%" PRId64 ",%" PRId64 ",%" PRId64 "\n", row[Z33_ROW_B], row[Z33_ROW_B + Z33_FIRST], row[Z33_ROW_B + Z33_SECOND]);
     printf("out,%" PRId64 "\n", row[Z33_ROW_OUTPUT_COUNT]);
+    printf("empty,%" PRIu64 "\n", ran.empty);
 }
 
 /* The other calls once each: a byte in, a cell out, an exception without handler, nothing to drain. */
@@ -94,7 +95,8 @@ static void null_is_refused(void) {
     due(z33_fresh(cells, NUMBERS, NULL, 0).refusal == Z33_REFUSAL_ROW, "fresh without a row");
     due(z33_run(NULL, 0, NULL, 0, NULL, 0, NULL, 0, 1).refusal == Z33_REFUSAL_CELLS, "run without anything");
     due(z33_run(cells, NUMBERS, NULL, 0, NULL, 0, NULL, 0, 1).refusal == Z33_REFUSAL_QUEUE, "run without a queue");
-    due(z33_run(cells, NUMBERS, queue, QUEUE, NULL, 0, NULL, 0, 1).refusal == Z33_REFUSAL_ROW, "run without a row");
+    z33_ran ran = z33_run(cells, NUMBERS, queue, QUEUE, NULL, 0, NULL, 0, 1);
+    due(ran.refusal == Z33_REFUSAL_ROW && ran.steps == 0 && ran.empty == 0, "run without a row");
     due(z33_deliver(NULL, 0, row, ROW, NULL, 0).refusal == Z33_REFUSAL_QUEUE, "deliver without a queue");
     due(z33_deliver(queue, QUEUE, NULL, 0, NULL, 0).refusal == Z33_REFUSAL_ROW, "deliver without a row");
     due(z33_drain(NULL, 0, NULL, 0, NULL, 0).refusal == Z33_REFUSAL_ROW, "drain without a row");

@@ -11,15 +11,16 @@ use taken::CellTaken;
 use taken::WordTaken;
 ghost use mathlib.Core.Path.{_≡_};
 ghost use mathlib.Core.List.{List};
-ghost use lib.IntN.{ℤ};
+ghost use lib.IntN.{ℤ, _+ℤ_};
 ghost use Rattle.definition.specs.declared.Error.the-variants.{InvalidMemoryAccess};
+ghost use Rattle.definition.specs.Word.{wrap, addressOf};
 ghost use Rattle.definition.specs.Memory.{extractWord};
-ghost use Rattle.definition.specs.Registers.{regAt};
-ghost use Rattle.definition.specs.Arguments.{indexed, resolve, readThere, cellThere, extractCell};
+ghost use Rattle.definition.specs.Registers.{regAt, getReg};
+ghost use Rattle.definition.specs.Arguments.{resolve, readThere, cellThere};
 ghost use Rattle.definition.specs.Exec.{core, read};
 ghost use Rattle.definition.specs.Instructions.{cellOf, wordOf, targetOf, registerWord, placeOf};
 ghost use Rattle.memory.specs.Overlay.{overlay};
-ghost use Rattle.arguments.specs.Operands.{argOf, inA, holding, givenBy};
+ghost use Rattle.arguments.specs.Operands.{argOf, baseAt, indexAt, addressFrom, isValue, valueOf};
 ghost use Rattle.arguments.specs.Taken.{tookWord, tookAddress, tookCell};
 
 pub mod taken;
@@ -31,30 +32,77 @@ pub struct Arg {
     pub number: i64,
 }
 
-// Idx: "an indexed sum wraps at 64 bits before it is tested as an address"
-fn indexed(rc: Cell, number: i64) -> Address
-    ensures { λ r. ⌜ r ≡ indexed (extractWord rc) number ⌝ }
+// The address that an operand names, and the word of its register that it was taken from: where it has no such register, a word that is no empty cell's.
+pub struct Resolved {
+    pub base: Word,
+    pub at: Address,
+}
+
+// The word that the address counts from: 0, or the register's.
+fn base(v: Cell, mode: u32) -> Word
+    ensures { λ r. ⌜ r ≡ baseAt mode (extractWord v) ⌝ }
 {
-    match memory::extract_word(rc) {
-        Word::Is(w) => {
-            let sum = word::add(w, number);
-            word::to_address(sum.value)
-        }
+    let w = memory::extract_word(v);
+    match mode {
+        3 => Word::Is(0),
+        4 => w,
+        5 => w,
+        _ => Word::NotWord,
+    }
+}
+
+// What is added to it.
+fn index(mode: u32, number: i64) -> i64
+    ensures { λ r. ⌜ r ≡ indexAt mode number ⌝ }
+{
+    if mode == 4 { 0 } else { number }
+}
+
+// "an indexed sum wraps at 64 bits before it is tested as an address"
+fn sum(w: i64, index: i64) -> Address
+    ensures { λ r. ⌜ r ≡ addressOf (wrap (w +ℤ index)) ⌝ }
+{
+    let sum = word::add(w, index);
+    word::to_address(sum.value)
+}
+
+fn address_from(base: Word, mode: u32, number: i64) -> Address
+    ensures { λ r. ⌜ r ≡ addressFrom mode base number ⌝ }
+{
+    let i = index(mode, number);
+    match base {
+        Word::Is(w) => sum(w, i),
+        Word::Empty => sum(0, i),
         Word::NotWord => Address::NotAddress,
     }
 }
 
-// ResolveAddress: Dir, Ind, Idx. Here and below rc is the cell of the operand's register, taken once: handed the registers whole, a reader stays out of line
-// (docs/SPEED.md).
-fn resolve(rc: Cell, x: Arg) -> Address
-    ensures { λ r. ⌜ r ≡ resolve (inA x) (holding rc) ⌝ }
+// ResolveAddress: Dir, Ind, Idx
+fn resolve(s: Registers, x: Arg) -> Resolved
+    ensures { λ r. ⌜ r ≡ record { base = baseAt (x .mode) (extractWord (getReg (regAt (x .reg)) s)); at = resolve (argOf x) s } ⌝ }
+{
+    let base = base(registers::get_reg(s, x.reg), x.mode);
+    Resolved {
+        base,
+        at: address_from(base, x.mode, x.number),
+    }
+}
+
+// Imm, Reg: an operand that names no address.
+fn is_value(mode: u32) -> bool
+    ensures { λ r. ⌜ r ≡ isValue mode ⌝ }
+{
+    (mode == 1) | (mode == 2)
+}
+
+fn value(s: Registers, x: Arg) -> Cell
+    ensures { λ r. ⌜ r ≡ valueOf x s ⌝ }
 {
     let mode = x.mode;
-    match mode {
-        3 => word::to_address(x.number),
-        4 => memory::extract_address(rc),
-        5 => indexed(rc, x.number),
-        _ => Address::NotAddress,
+    if mode == 1 {
+        memory::word_cell(x.number)
+    } else {
+        registers::get_reg(s, x.reg)
     }
 }
 
@@ -88,30 +136,17 @@ fn there_over(cells: &[i64], at: u32, v: Cell, n: Address) -> Given
     }
 }
 
-// What the operand gives, where `there` stands at its address.
-fn given_by(rc: Cell, x: Arg, there: Given) -> Given
-    ensures { λ r. ⌜ r ≡ givenBy (inA x) there (holding rc) ⌝ }
-{
-    let mode = x.mode;
-    match mode {
-        1 => Given::Gives(memory::word_cell(x.number)),
-        2 => Given::Gives(rc),
-        _ => there,
-    }
-}
-
-// ExtractValue
-fn extract_cell(cells: &[i64], rc: Cell, x: Arg) -> Given
-    ensures { λ r. ⌜ r ≡ extractCell (inA x) (now (cells .entry)) (holding rc) ⌝ }
-{
-    given_by(rc, x, cell_there(cells, resolve(rc, x)))
-}
-
-// The operand's cell.
+// The operand's cell. A value is apart: it names no address, and the tests stay few where they are compiled in line (docs/SPEED.md).
 pub fn cell_of(cells: &[i64], s: Registers, x: Arg) -> CellTaken
     ensures { λ t. ⌜ t ≡ tookCell (cellOf (argOf x) (core (now (cells .entry)) s)) ⌝ }
 {
-    taken::or_given(s, extract_cell(cells, registers::get_reg(s, x.reg), x))
+    if is_value(x.mode) {
+        return taken::or_given(s, Given::Gives(value(s, x)));
+    }
+    let p = resolve(s, x);
+    let base = p.base;
+    let at = p.at;
+    taken::or_given(registers::counted(s, base), cell_there(cells, at))
 }
 
 // The operand's word.
@@ -143,20 +178,30 @@ pub fn target_of(cells: &[i64], s: Registers, x: Arg) -> AddressTaken
 pub fn target_over(cells: &[i64], at: u32, v: Cell, s: Registers, x: Arg) -> AddressTaken
     ensures { λ t. ⌜ t ≡ tookAddress (targetOf (argOf x) (core (overlay at v (now (cells .entry))) s)) ⌝ }
 {
-    let rc = registers::get_reg(s, x.reg);
-    let there = there_over(cells, at, v, resolve(rc, x));
-    taken::address_in(taken::or_given(s, given_by(rc, x, there)), Error::Extract)
+    if is_value(x.mode) {
+        return taken::address_in(
+            taken::or_given(s, Given::Gives(value(s, x))),
+            Error::Extract,
+        );
+    }
+    let p = resolve(s, x);
+    let base = p.base;
+    let n = p.at;
+    let there = there_over(cells, at, v, n);
+    taken::address_in(
+        taken::or_given(registers::counted(s, base), there),
+        Error::Extract,
+    )
 }
 
 // The address that the operand names.
 pub fn address_of(s: Registers, x: Arg) -> AddressTaken
     ensures { λ t. ⌜ ((l : List ℤ) → t ≡ tookAddress (placeOf (argOf x) (core l s))) ⌝ }
 {
-    taken::or_address(
-        s,
-        resolve(registers::get_reg(s, x.reg), x),
-        Error::CellError,
-    )
+    let p = resolve(s, x);
+    let base = p.base;
+    let at = p.at;
+    taken::or_address(registers::counted(s, base), at, Error::CellError)
 }
 
 // A cell read at an address of the machine's own: sp, or where pc and sr are saved.

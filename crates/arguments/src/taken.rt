@@ -11,8 +11,8 @@ ghost use mathlib.Core.List.{List};
 ghost use lib.IntN.{ℤ};
 ghost use mathlib.Core.Bool.{false};
 ghost use Rattle.definition.specs.Word.{addressOf};
-ghost use Rattle.definition.specs.Memory.{empty, extractWord};
-ghost use Rattle.definition.specs.Exec.{core, andThen, orWord, orAddress, orCell, orGiven};
+ghost use Rattle.definition.specs.Memory.{empty};
+ghost use Rattle.definition.specs.Exec.{core, andThen, orWord, takeWord, takeAddress, orAddress, orCell, orGiven};
 ghost use Rattle.arguments.specs.Taken.{tookWord, tookAddress, tookCell, wordRes, cellRes};
 
 pub struct WordTaken {
@@ -36,7 +36,7 @@ pub struct CellTaken {
     pub s: Registers,
 }
 
-// What may be missing, or else the error.
+// What may be missing, or else the error. An empty cell's word is 0, and is counted.
 pub fn or_word(s: Registers, w: Word, error: Error) -> WordTaken
     ensures { λ t. ⌜ ((l : List ℤ) → t ≡ tookWord (orWord w error (core l s))) ⌝ }
 {
@@ -47,6 +47,15 @@ pub fn or_word(s: Registers, w: Word, error: Error) -> WordTaken
             value,
             s,
         },
+        Word::Empty => {
+            let t = registers::counted(s, w);
+            WordTaken {
+                ok: true,
+                error: Error::Reset,
+                value: 0,
+                s: t,
+            }
+        }
         Word::NotWord => WordTaken {
             ok: false,
             error,
@@ -123,7 +132,7 @@ pub fn or_given(s: Registers, v: Given) -> CellTaken
 
 // The word of the cell that was taken.
 pub fn word_in(c: CellTaken, error: Error) -> WordTaken
-    ensures { λ t. ⌜ ((l : List ℤ) → t ≡ tookWord (andThen (cellRes l c) (λ v. orWord (extractWord v) error))) ⌝ }
+    ensures { λ t. ⌜ ((l : List ℤ) → t ≡ tookWord (andThen (cellRes l c) (λ v. takeWord v error))) ⌝ }
 {
     let s = c.s;
     if c.ok {
@@ -158,7 +167,7 @@ fn word_address(w: WordTaken, error: Error) -> AddressTaken
 
 // The address in the cell that was taken.
 pub fn address_in(c: CellTaken, error: Error) -> AddressTaken
-    ensures { λ t. ⌜ ((l : List ℤ) → t ≡ tookAddress (andThen (andThen (cellRes l c) (λ v. orWord (extractWord v) error)) (λ n. orAddress (addressOf n) error))) ⌝ }
+    ensures { λ t. ⌜ ((l : List ℤ) → t ≡ tookAddress (andThen (cellRes l c) (λ v. takeAddress v error))) ⌝ }
 {
     word_address(word_in(c, error), error)
 }

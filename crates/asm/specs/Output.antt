@@ -1,5 +1,5 @@
--- What `./z33 asm` prints (Card 1): "`./z33 asm FILE`". On standard output the image's numeric lines, or `refused,N,line` alone; on standard error a person's
--- message. A text is a list of bytes: 10 is a line end.
+-- What `./z33 asm` prints (Card 1): on standard output the image's numeric lines, or `refused,N,line` alone; on standard error a person's message. A text is a
+-- list of bytes: 10 is a line end.
 use mathlib.Core.Path.{_≡_}
 use mathlib.Core.Bool.{Bool, true, cond}
 use mathlib.Core.List.{List, [], _∷_, _++_}
@@ -67,15 +67,17 @@ readName = 58 ∷ 32 ∷ 114 ∷ 101 ∷ 97 ∷ 100 ∷ 32 ∷ 119 ∷ 97 ∷ 11
 abbrev pub colonName : List ℕ
 colonName = 58 ∷ 32 ∷ []
 
--- What 13, 14 and 15 expect.
+-- What 13 expects: `expected is [label:] mnemonic operands, or .word value, as the grammar has it: brackets at most 32 deep, 10000 lines`,
 unfoldable pub grammarText : List ℕ
 grammarText =
     101 ∷ 120 ∷ 112 ∷ 101 ∷ 99 ∷ 116 ∷ 101 ∷ 100 ∷ 32 ∷ 105 ∷ 115 ∷ 32 ∷ 91 ∷ 108 ∷ 97 ∷ 98 ∷ 101 ∷ 108 ∷ 58 ∷ 93 ∷ 32 ∷ 109 ∷ 110 ∷ 101 ∷ 109 ∷ 111 ∷ 110 ∷ 105 ∷ 99 ∷ 32 ∷ 111 ∷ 112 ∷ 101 ∷ 114 ∷ 97 ∷ 110 ∷ 100 ∷ 115 ∷ 44 ∷ 32 ∷ 111 ∷ 114 ∷ 32 ∷ 46 ∷ 119 ∷ 111 ∷ 114 ∷ 100 ∷ 32 ∷ 118 ∷ 97 ∷ 108 ∷ 117 ∷ 101 ∷ 44 ∷ 32 ∷ 97 ∷ 115 ∷ 32 ∷ 116 ∷ 104 ∷ 101 ∷ 32 ∷ 103 ∷ 114 ∷ 97 ∷ 109 ∷ 109 ∷ 97 ∷ 114 ∷ 32 ∷ 104 ∷ 97 ∷ 115 ∷ 32 ∷ 105 ∷ 116 ∷ 58 ∷ 32 ∷ 98 ∷ 114 ∷ 97 ∷ 99 ∷ 107 ∷ 101 ∷ 116 ∷ 115 ∷ 32 ∷ 97 ∷ 116 ∷ 32 ∷ 109 ∷ 111 ∷ 115 ∷ 116 ∷ 32 ∷ 51 ∷ 50 ∷ 32 ∷ 100 ∷ 101 ∷ 101 ∷ 112 ∷ 44 ∷ 32 ∷ 49 ∷ 48 ∷ 48 ∷ 48 ∷ 48 ∷ 32 ∷ 108 ∷ 105 ∷ 110 ∷ 101 ∷ 115 ∷ 10 ∷ []
 
+-- 14: `expected is a label that one line sets and no more, of at most 256`,
 unfoldable pub labelText : List ℕ
 labelText =
     101 ∷ 120 ∷ 112 ∷ 101 ∷ 99 ∷ 116 ∷ 101 ∷ 100 ∷ 32 ∷ 105 ∷ 115 ∷ 32 ∷ 97 ∷ 32 ∷ 108 ∷ 97 ∷ 98 ∷ 101 ∷ 108 ∷ 32 ∷ 116 ∷ 104 ∷ 97 ∷ 116 ∷ 32 ∷ 111 ∷ 110 ∷ 101 ∷ 32 ∷ 108 ∷ 105 ∷ 110 ∷ 101 ∷ 32 ∷ 115 ∷ 101 ∷ 116 ∷ 115 ∷ 32 ∷ 97 ∷ 110 ∷ 100 ∷ 32 ∷ 110 ∷ 111 ∷ 32 ∷ 109 ∷ 111 ∷ 114 ∷ 101 ∷ 44 ∷ 32 ∷ 111 ∷ 102 ∷ 32 ∷ 97 ∷ 116 ∷ 32 ∷ 109 ∷ 111 ∷ 115 ∷ 116 ∷ 32 ∷ 50 ∷ 53 ∷ 54 ∷ 10 ∷ []
 
+-- 15: `expected are values within 64 bits, and in square brackets an address, 0 to 4294967295`, each with a line end.
 unfoldable pub valueText : List ℕ
 valueText =
     101 ∷ 120 ∷ 112 ∷ 101 ∷ 99 ∷ 116 ∷ 101 ∷ 100 ∷ 32 ∷ 97 ∷ 114 ∷ 101 ∷ 32 ∷ 118 ∷ 97 ∷ 108 ∷ 117 ∷ 101 ∷ 115 ∷ 32 ∷ 119 ∷ 105 ∷ 116 ∷ 104 ∷ 105 ∷ 110 ∷ 32 ∷ 54 ∷ 52 ∷ 32 ∷ 98 ∷ 105 ∷ 116 ∷ 115 ∷ 44 ∷ 32 ∷ 97 ∷ 110 ∷ 100 ∷ 32 ∷ 105 ∷ 110 ∷ 32 ∷ 115 ∷ 113 ∷ 117 ∷ 97 ∷ 114 ∷ 101 ∷ 32 ∷ 98 ∷ 114 ∷ 97 ∷ 99 ∷ 107 ∷ 101 ∷ 116 ∷ 115 ∷ 32 ∷ 97 ∷ 110 ∷ 32 ∷ 97 ∷ 100 ∷ 100 ∷ 114 ∷ 101 ∷ 115 ∷ 115 ∷ 44 ∷ 32 ∷ 48 ∷ 32 ∷ 116 ∷ 111 ∷ 32 ∷ 52 ∷ 50 ∷ 57 ∷ 52 ∷ 57 ∷ 54 ∷ 55 ∷ 50 ∷ 57 ∷ 53 ∷ 10 ∷ []
@@ -83,6 +85,7 @@ valueText =
 unfoldable pub expectedText : ℕ → List ℕ
 expectedText number = cond (eqb number 13) grammarText (cond (eqb number 14) labelText valueText)
 
+-- `line N`
 unfoldable pub numberText : ℕ → List ℕ
 numberText place = lineName ++ decimal place
 
@@ -103,7 +106,7 @@ outputOf text m = cond (eqb (m .answer .refusal) 0) (imageText (m .answer .count
 unfoldable pub errorOf : List ℕ → Called Counted (List ℤ) → List ℕ
 errorOf text m = cond (eqb (m .answer .refusal) 0) [] (messageText text (m .answer .refusal) (m .answer .place))
 
--- A text longer than 131,072 bytes is not assembled.
+-- A text longer than 131,072 bytes is not assembled: `asm: the text is longer than 131072 bytes`.
 unfoldable pub tooLongText : List ℕ
 tooLongText =
     97 ∷ 115 ∷ 109 ∷ 58 ∷ 32 ∷ 116 ∷ 104 ∷ 101 ∷ 32 ∷ 116 ∷ 101 ∷ 120 ∷ 116 ∷ 32 ∷ 105 ∷ 115 ∷ 32 ∷ 108 ∷ 111 ∷ 110 ∷ 103 ∷ 101 ∷ 114 ∷ 32 ∷ 116 ∷ 104 ∷ 97 ∷ 110 ∷ 32 ∷ 49 ∷ 51 ∷ 49 ∷ 48 ∷ 55 ∷ 50 ∷ 32 ∷ 98 ∷ 121 ∷ 116 ∷ 101 ∷ 115 ∷ 10 ∷ []

@@ -10,6 +10,7 @@ use lib.Dec.{ltb}
 use borrow.Author.Tests.{ltb-true, ltb-false}
 use Rattle.definition.specs.declared.Registers.{Registers}
 use Rattle.definition.specs.Constants.{CYCLES-END}
+use Rattle.definition.specs.Total.{TOTAL-MOST, total}
 use Rattle.definition.specs.Exception.{Ending, exception, stop, ending, HARDWARE-INTERRUPT, NO-HANDLER}
 use Rattle.definition.specs.Memory.{cellCount}
 use Rattle.definition.specs.Registers.{refused, interruptEnable}
@@ -17,10 +18,11 @@ use Rattle.definition.specs.Encoding.{Instruction}
 use Rattle.definition.specs.Exec.{Core, core, Res, ok, err, andThen, return}
 use Rattle.definition.specs.Instructions.{Request, execute}
 use Rattle.definition.specs.Runtime as M
-use Rattle.definition.specs.Runtime.{Machine, with-core, with-cycles, with-mark, Executed, Run, runs}
+use Rattle.definition.specs.Runtime.{Machine, with-core, with-cycles, with-mark, uncounted, Executed, Run, runs}
 use Rattle.definition.specs.Accepted.{AcceptedMachine}
 use Rattle.definition.proofs.Step.{limit-below}
-use Rattle.definition.proofs.Accepted.{OutcomeHas, step-accepted}
+use Rattle.definition.proofs.Total.{total-plain, total-zero, total-assoc}
+use Rattle.definition.proofs.Accepted.{OutcomeHas, Stepped, step-accepted, uncounted-in, run-most}
 use Rattle.memory.proofs.Laws.{over-none}
 use Rattle.registers.specs.Meaning.{result, settled}
 use Rattle.stores.specs.declared.Made.{Made}
@@ -161,43 +163,47 @@ module _ (l : List ℤ) (q o : List ℕ) (m : State) (f : Fetched) (h : Fetches 
 
 -- ---- the run
 
-pub next-accepted : (m m' : Machine) (b : Bool) (n d : ℕ) → AcceptedMachine m → outcomeAt b n d m' ≡ M.step m → AcceptedMachine m'
-next-accepted m m' true n d a e = subst (OutcomeHas AcceptedMachine) (sym e) (step-accepted m a)
-next-accepted m m' false n d a e = subst (OutcomeHas AcceptedMachine) (sym e) (step-accepted m a) .1
+pub next-accepted : (m m' : Machine) (b : Bool) (n d : ℕ) → AcceptedMachine m → outcomeAt b n d m' ≡ M.step m → AcceptedMachine (uncounted m')
+next-accepted m m' true n d a e = uncounted-in m' (subst (OutcomeHas Stepped) (sym e) (step-accepted m a))
+next-accepted m m' false n d a e = uncounted-in m' (subst (OutcomeHas Stepped) (sym e) (step-accepted m a) .1)
 
-later-by : (k n : ℕ) (r : Run) → k ≡ n → M.later k r ≡ M.later n r
-later-by k n r e = ap (λ (x : ℕ). M.later x r) e
+-- nothing more was taken
+pub total-none : (t : ℕ) → t ≤ TOTAL-MOST → t ≡ total t 0
+total-none t h = let z : t ≡ t + 0 = omega arith in z ∙ sym (total-plain t 0 (omega arith))
 
-pub run-start : (b : ℕ) (m : Machine) → M.later 0 (M.run (b - 0) m) ≡ M.run b m
+pub run-start : (b : ℕ) (m : Machine) → M.later 0 0 (M.run (b - 0) m) ≡ M.run b m
 unfolding M.later
 run-start b m =
     let e : b - 0 ≡ b = omega arith in
     let r = M.run b m in
     let z : 0 + r .steps ≡ r .steps = omega arith in
-    ap (λ (x : ℕ). M.later 0 (M.run x m)) e ∙ (λ i. runs (r .stop) (r .detail) (z i) (r .left))
+    ap (λ (x : ℕ). M.later 0 0 (M.run x m)) e ∙ (λ i. runs (r .stop) (r .detail) (z i) (total-zero (r .empty) (run-most b m) i) (r .left))
 
-pub run-went : (k b : ℕ) (m m' : Machine) (n d : ℕ) → k < b → outcomeAt true n d m' ≡ M.step m → M.later (k + 1) (M.run (b - (k + 1)) m') ≡ M.later k (M.run (b - k) m)
-unfolding M.run M.goOn M.later
-run-went k b m m' n d h e =
-    let j : b - k ≡ suc (b - (k + 1)) = omega arith in
-    let r : Run = M.run (b - (k + 1)) m' in
-    let z : k + 1 + r .steps ≡ k + (1 + r .steps) = omega arith in
-    (λ i. runs (r .stop) (r .detail) (z i) (r .left))
-    ∙ ap (λ (o : M.Outcome). M.later k (M.goOn o (M.run (b - (k + 1))))) e
-    ∙ sym (ap (λ (x : ℕ). M.later k (M.run x m)) j)
+-- after k of b steps, which took t words of empty cells
+module _ (k b t : ℕ) (m m' : Machine) (n d : ℕ) (h : k < b) where
+  next : b - k ≡ suc (b - (k + 1))
+  next = omega arith
 
-pub run-ended : (k b : ℕ) (m m' : Machine) (n d : ℕ) → k < b → outcomeAt false n d m' ≡ M.step m → runs n d k m' ≡ M.later k (M.run (b - k) m)
-unfolding M.run M.goOn M.later
-run-ended k b m m' n d h e =
-    let j : b - k ≡ suc (b - (k + 1)) = omega arith in
-    let z : k ≡ k + 0 = omega arith in
-    (λ i. runs n d (z i) m')
-    ∙ ap (λ (o : M.Outcome). M.later k (M.goOn o (M.run (b - (k + 1))))) e
-    ∙ sym (ap (λ (x : ℕ). M.later k (M.run x m)) j)
+  pub run-went : outcomeAt true n d m' ≡ M.step m → M.later (k + 1) (total t (m' .core .regs .empties)) (M.run (b - (k + 1)) (uncounted m')) ≡ M.later k t (M.run (b - k) m)
+  unfolding M.run M.goOn M.later
+  run-went e =
+      let r : Run = M.run (b - (k + 1)) (uncounted m') in
+      let z : k + 1 + r .steps ≡ k + (1 + r .steps) = omega arith in
+      (λ i. runs (r .stop) (r .detail) (z i) (sym (total-assoc t (m' .core .regs .empties) (r .empty)) i) (r .left))
+      ∙ ap (λ (o : M.Outcome). M.later k t (M.goOn o (M.run (b - (k + 1))))) e
+      ∙ sym (ap (λ (x : ℕ). M.later k t (M.run x m)) next)
 
-pub run-spent : (k b : ℕ) (m : Machine) → b ≤ k → runs 0 0 k m ≡ M.later k (M.run (b - k) m)
+  pub run-ended : t ≤ TOTAL-MOST → outcomeAt false n d m' ≡ M.step m → runs n d k t (uncounted m') ≡ M.later k t (M.run (b - k) m)
+  unfolding M.run M.goOn M.later
+  run-ended f e =
+      let z : k ≡ k + 0 = omega arith in
+      (λ i. runs n d (z i) (total-none t f i) (uncounted m'))
+      ∙ ap (λ (o : M.Outcome). M.later k t (M.goOn o (M.run (b - (k + 1))))) e
+      ∙ sym (ap (λ (x : ℕ). M.later k t (M.run x m)) next)
+
+pub run-spent : (k b t : ℕ) (m : Machine) → b ≤ k → t ≤ TOTAL-MOST → runs 0 0 k t m ≡ M.later k t (M.run (b - k) m)
 unfolding M.run M.later
-run-spent k b m h =
+run-spent k b t m h f =
     let j : b - k ≡ 0 = omega arith in
     let z : k ≡ k + 0 = omega arith in
-    (λ i. runs 0 0 (z i) m) ∙ sym (ap (λ (x : ℕ). M.later k (M.run x m)) j)
+    (λ i. runs 0 0 (z i) (total-none t f i) m) ∙ sym (ap (λ (x : ℕ). M.later k t (M.run x m)) j)

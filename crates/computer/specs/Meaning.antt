@@ -4,8 +4,10 @@ use mathlib.Core.List.{List}
 use Prim.Native.Nat.{ℕ}
 use lib.IntN.{ℤ}
 use lib.Dec.{ltb}
+use Rattle.definition.specs.Registers.{with-empties}
 use Rattle.definition.specs.Runtime.{Run}
 use Rattle.console.specs.declared.ConsoleState.{ConsoleState}
+use Rattle.runtime.specs.declared.State.{State}
 use Rattle.runtime.specs.Meaning.{machineAt}
 use Rattle.computer.specs.declared.Ended.{Ended}
 
@@ -17,5 +19,9 @@ NEAR = 4611686018427387904
 abbrev pub quiet : ConsoleState → ℕ → Bool
 quiet k n = not (k .marks .pending) && ltb n NEAR
 
+-- The state between two steps.
+abbrev pub uncountedState : State → State
+uncountedState m = record { s = with-empties 0 (m .s); cycles = m .cycles; k = m .k }
+
 abbrev pub endedOf : List ℤ → List ℕ → List ℕ → Ended → Run
-endedOf l q o r = record { stop = r .stop; detail = r .detail; steps = r .steps; left = machineAt l q o (r .m) }
+endedOf l q o r = record { stop = r .stop; detail = r .detail; steps = r .steps; empty = r .empty; left = machineAt l q o (r .m) }

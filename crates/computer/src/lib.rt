@@ -6,10 +6,11 @@ use runtime::Stepped;
 ghost use mathlib.Core.Path.{_≡_};
 ghost use mathlib.Core.Bool.{true, false};
 ghost use Prim.Native.Nat.{_≤_};
+ghost use Rattle.definition.specs.Total.{total};
 ghost use Rattle.definition.specs.Runtime.{step, run};
 ghost use Rattle.definition.specs.Accepted.{AcceptedMachine};
 ghost use Rattle.runtime.specs.Meaning.{machineAt, steppedOf};
-ghost use Rattle.computer.specs.Meaning.{NEAR, quiet, endedOf};
+ghost use Rattle.computer.specs.Meaning.{NEAR, quiet, uncountedState, endedOf};
 
 // "0 budget spent"
 const BUDGET_SPENT: u32 = 0;
@@ -19,6 +20,8 @@ pub struct Ended {
     pub stop: u32,
     pub detail: u32,
     pub steps: u32,
+    // The words taken from empty cells, over the completed steps.
+    pub empty: u64,
     pub m: State,
 }
 
@@ -105,7 +108,28 @@ pub fn step(cells: &mut [i64], queue: &[u8], output: &mut [u8], saved: State, m:
     runtime::settle::settle(cells, output, saved, a)
 }
 
-// Computer::run, on a budget.
+// The count of empty reads starts again with every step.
+fn uncounted(m: State) -> State
+    ensures { λ r. ⌜ r ≡ uncountedState m ⌝ }
+{
+    let mut s = m.s;
+    s.empties = 0;
+    let mut t = m;
+    t.s = s;
+    t
+}
+
+// The total with a step's count, which is nearly always 0.
+fn summed(empty: u64, counted: u64) -> u64
+    ensures { λ r. ⌜ r ≡ total empty counted ⌝ }
+{
+    if counted == 0 {
+        return empty;
+    }
+    word::total(empty, counted)
+}
+
+// Computer::run, on a budget. A step that stops counts nothing.
 pub fn run(cells: &mut [i64], queue: &[u8], output: &mut [u8], m: State, budget: u32) -> Ended
     requires { do ⌜ AcceptedMachine (machineAt (now cells) (now queue) (now output) m) ⌝ }
     ensures { λ r. ⌜ endedOf (now (cells .exit)) (now (queue .entry)) (now (output .exit)) r ≡ run budget (machineAt (now (cells .entry)) (now (queue .entry)) (now (output .entry)) m) ⌝ }
@@ -113,19 +137,25 @@ pub fn run(cells: &mut [i64], queue: &[u8], output: &mut [u8], m: State, budget:
     let mut saved = m;
     let mut t = m;
     let mut steps: u32 = 0;
+    let mut empty: u64 = 0;
     while steps < budget {
         let u = step(cells, queue, output, saved, t);
-        t = u.m;
+        let after = u.m;
+        let s = after.s;
+        let sum = summed(empty, s.empties);
+        t = uncounted(after);
         if u.completed {
             if 0x4000_0000_0000_0000 <= t.cycles {
                 saved = t;
             }
+            empty = sum;
             steps += 1;
         } else {
             return Ended {
                 stop: u.stop,
                 detail: u.detail,
                 steps,
+                empty,
                 m: t,
             };
         }
@@ -134,6 +164,7 @@ pub fn run(cells: &mut [i64], queue: &[u8], output: &mut [u8], m: State, budget:
         stop: BUDGET_SPENT,
         detail: 0,
         steps,
+        empty,
         m: t,
     }
 }

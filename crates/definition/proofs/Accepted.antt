@@ -13,18 +13,20 @@ use Rattle.definition.specs.declared.Error.{Error}
 use Rattle.definition.specs.declared.Error.the-variants.{DivByZero, InvalidInstruction, PrivilegedInstruction, Trap, InvalidMemoryAccess, CellError, Extract, InvalidPc, InvalidSp, InvalidSr, Reset}
 use Rattle.definition.specs.declared.Ran.{Ran}
 use Rattle.definition.specs.Constants.{CYCLES-END}
+use Rattle.definition.specs.Total.{TOTAL-MOST, total}
 use Rattle.definition.specs.Exception.{stop, ending, HARDWARE-INTERRUPT, NO-HANDLER, OUTPUT-FULL, CYCLES-FULL}
 use Rattle.definition.specs.Memory.{word}
 use Rattle.definition.specs.Registers.{interruptEnable}
 use Rattle.definition.specs.Io.{Console, with-marks, inputReady, status, readStatus, writeControl, around, readData, readPort, writeData, writePort, outputFull}
 use Rattle.definition.specs.Exec.{Core, Res, ok, err}
 use Rattle.definition.specs.Instructions.{Request, nothing, reads, writes, setRegister}
-use Rattle.definition.specs.Runtime.{Machine, with-core, with-cycles, with-console, with-mark, Executed, attempt, Turn, completes, enters, stops, ends, poll, conclude, serve, afterAttempt, turn, Outcome, completed, stopped, hasHandler, entered, recover, settle, reached, limit, step, Run, runs, later, goOn, run}
+use Rattle.definition.specs.Runtime.{Machine, with-core, with-cycles, with-console, with-mark, Executed, attempt, Turn, completes, enters, stops, ends, poll, conclude, serve, afterAttempt, turn, Outcome, completed, stopped, hasHandler, entered, recover, settle, reached, limit, step, Run, runs, uncounted, later, goOn, run}
 use Rattle.definition.specs.Calls.{Lent, lentMachine, lentOf, Called, passes, runCheck, ran, runRefused, runCall}
 use Rattle.definition.specs.UserMode.{Accepted}
 use Rattle.definition.specs.Accepted.{Sound, AcceptedCore, ConsoleIn, AcceptedMachine, laterCall, RunsAccepted}
 -- Not cited: the table is proved first, so that a wrong rule is refused at a row that shows it.
 use Rattle.definition.proofs.Course.{course}
+use Rattle.definition.proofs.Total.{total-most, total-zero, total-assoc}
 use Rattle.definition.proofs.Keeps.{Good, k-set, attempt-keeps}
 use Rattle.definition.proofs.AcceptedCore.{any-laws, word-sound}
 use Rattle.definition.proofs.UserStep.{entered-accepted}
@@ -159,27 +161,38 @@ settle-in (enters k m) b = go (hasHandler (m .core .cells))
     go false = (omega arith, b)
 settle-in (stops n d m) b = b
 
-with-limit : (m : Machine) → Both m → m .cycles < CYCLES-END → AcceptedMachine m
-with-limit m b h = record { core-in = b .core-in; cycles-in = h; console-in = b .console-in }
+-- what acceptance says, but for the step's count of empty cells, which starts again with the next step
+pub record Stepped (m : Machine) : Type 0 where
+  pub both : Both m
+  pub cycles-in : m .cycles < CYCLES-END
 
-limit-in : (m : Machine) → AcceptedMachine m → (o : Outcome) → OutcomeHas Both o → OutcomeHas AcceptedMachine (limit m o)
+pub stepped : (m : Machine) → AcceptedMachine m → Stepped m
+stepped m a = record { both = record { core-in = a .core-in; console-in = a .console-in }; cycles-in = a .cycles-in }
+
+pub uncounted-in : (m : Machine) → Stepped m → AcceptedMachine (uncounted m)
+uncounted-in m b =
+    record { core-in = any-laws .to-empties (m .core) (b .both .core-in) 0; cycles-in = b .cycles-in; console-in = b .both .console-in; none-counted = refl }
+
+limit-in : (m : Machine) → Stepped m → (o : Outcome) → OutcomeHas Both o → OutcomeHas Stepped (limit m o)
 unfolding limit reached
 limit-in m a (completed m') h = go (ltb (m' .cycles) CYCLES-END) refl
   where
-    go : (b : Bool) → ltb (m' .cycles) CYCLES-END ≡ b → OutcomeHas AcceptedMachine (cond b (completed m') (stopped CYCLES-FULL 0 m))
-    go true e = with-limit m' h (ltb-true _ _ e)
+    go : (b : Bool) → ltb (m' .cycles) CYCLES-END ≡ b → OutcomeHas Stepped (cond b (completed m') (stopped CYCLES-FULL 0 m))
+    go true e = record { both = h; cycles-in = ltb-true _ _ e }
     go false e = (omega arith, a)
 limit-in m a (stopped n d m') h = go (ltb (m' .cycles) CYCLES-END) refl
   where
-    go : (b : Bool) → ltb (m' .cycles) CYCLES-END ≡ b → OutcomeHas AcceptedMachine (cond b (stopped n d m') (stopped CYCLES-FULL 0 m))
-    go true e = (h .0, with-limit m' (h .1) (ltb-true _ _ e))
+    go : (b : Bool) → ltb (m' .cycles) CYCLES-END ≡ b → OutcomeHas Stepped (cond b (stopped n d m') (stopped CYCLES-FULL 0 m))
+    go true e = (h .0, record { both = h .1; cycles-in = ltb-true _ _ e })
     go false e = (omega arith, a)
 
-pub step-accepted : (m : Machine) → AcceptedMachine m → OutcomeHas AcceptedMachine (step m)
+pub step-stepped : (m : Machine) → Stepped m → OutcomeHas Stepped (step m)
 unfolding step turn
-step-accepted m a =
-    let b : Both m = record { core-in = a .core-in; console-in = a .console-in } in
-    limit-in m a (settle (turn m)) (settle-in (turn m) (after-in m (attempt (m .core)) b (attempt-keeps AcceptedCore Sound (Unit {0}) (λ (q : Request). Unit {0}) any-laws (m .core) (a .core-in))))
+step-stepped m a =
+    limit-in m a (settle (turn m)) (settle-in (turn m) (after-in m (attempt (m .core)) (a .both) (attempt-keeps AcceptedCore Sound (Unit {0}) (λ (q : Request). Unit {0}) any-laws (m .core) (a .both .core-in))))
+
+pub step-accepted : (m : Machine) → AcceptedMachine m → OutcomeHas Stepped (step m)
+step-accepted m a = step-stepped m (stepped m a)
 
 -- ---- a run
 
@@ -189,53 +202,77 @@ pub record RunEnds (n : ℕ) (r : Run) : Type 0 where
   pub spent : r .stop ≡ 0 → r .steps ≡ n
   pub whole : r .steps ≡ n → r .stop ≡ 0
 
-go-on-ends : (n : ℕ) (o : Outcome) (k : Machine → Run) → OutcomeHas AcceptedMachine o → ((m : Machine) → AcceptedMachine m → RunEnds n (k m)) → RunEnds (suc n) (goOn o k)
+go-on-ends : (n : ℕ) (o : Outcome) (k : Machine → Run) → OutcomeHas Stepped o → ((m : Machine) → AcceptedMachine m → RunEnds n (k m)) → RunEnds (suc n) (goOn o k)
 unfolding goOn later
 go-on-ends n (completed m) k a h =
-    let r = h m a in
+    let r = h (uncounted m) (uncounted-in m a) in
     record { left-in = r .left-in; within = (let w = r .within in omega arith); spent = λ e. (let s = r .spent e in omega arith); whole = λ e. r .whole (omega arith) }
 go-on-ends n (stopped s d m) k a h =
-    let l = a .0 in record { left-in = a .1; within = omega arith; spent = λ e. absurd (omega arith); whole = λ e. absurd (omega arith) }
+    let l = a .0 in
+    record { left-in = uncounted-in m (a .1); within = omega arith; spent = λ e. absurd (omega arith); whole = λ e. absurd (omega arith) }
 
 pub run-ends : (n : ℕ) (m : Machine) → AcceptedMachine m → RunEnds n (run n m)
 unfolding run
 run-ends zero m a = record { left-in = a; within = omega arith; spent = λ e. refl; whole = λ e. refl }
 run-ends (suc n) m a = go-on-ends n (step m) (run n) (step-accepted m a) (λ m' a'. run-ends n m' a')
 
-later-zero : (r : Run) → later 0 r ≡ r
-unfolding later
-later-zero r = let e : 0 + r .steps ≡ r .steps = omega arith in λ i. runs (r .stop) (r .detail) (e i) (r .left)
+-- empty reads, summed
+go-on-most : (o : Outcome) (k : Machine → Run) → goOn o k .empty ≤ TOTAL-MOST
+unfolding goOn later
+go-on-most (completed m) k = total-most _ _
+go-on-most (stopped n d m) k = omega arith
 
-later-suc : (n : ℕ) (r : Run) → later 1 (later n r) ≡ later (suc n) r
-unfolding later
-later-suc n r =
-    let e : 1 + (n + r .steps) ≡ suc n + r .steps = omega arith in λ i. runs (r .stop) (r .detail) (e i) (r .left)
+pub run-most : (n : ℕ) (m : Machine) → run n m .empty ≤ TOTAL-MOST
+unfolding run
+run-most zero m = omega arith
+run-most (suc n) m = go-on-most (step m) (run n)
 
-later-stop : (n : ℕ) (r : Run) → later n r .stop ≡ r .stop
+later-zero : (r : Run) → r .empty ≤ TOTAL-MOST → later 0 0 r ≡ r
 unfolding later
-later-stop n r = refl
+later-zero r h =
+    let e : 0 + r .steps ≡ r .steps = omega arith in
+    λ i. runs (r .stop) (r .detail) (e i) (total-zero (r .empty) h i) (r .left)
 
-later-left : (n : ℕ) (r : Run) → later n r .left ≡ r .left
+later-suc : (n t u : ℕ) (r : Run) → later 1 t (later n u r) ≡ later (suc n) (total t u) r
 unfolding later
-later-left n r = refl
+later-suc n t u r =
+    let e : 1 + (n + r .steps) ≡ suc n + r .steps = omega arith in
+    λ i. runs (r .stop) (r .detail) (e i) (total-assoc t u (r .empty) i) (r .left)
+
+-- what a run's parts are behind a step
+later-stop : (t : ℕ) (r : Run) → later 1 t r .stop ≡ r .stop
+unfolding later
+later-stop t r = refl
+
+later-left : (t : ℕ) (r : Run) → later 1 t r .left ≡ r .left
+unfolding later
+later-left t r = refl
+
+later-empty : (t : ℕ) (r : Run) → later 1 t r .empty ≡ total t (r .empty)
+unfolding later
+later-empty t r = refl
 
 -- a budget passes through the machine of each smaller one
-go-on-through : (n b k : ℕ) (o : Outcome) → OutcomeHas AcceptedMachine o → ((m : Machine) → AcceptedMachine m → run n m .stop ≡ 0 → run b m ≡ later n (run k (run n m .left))) → goOn o (run n) .stop ≡ 0 → goOn o (run b) ≡ later (suc n) (run k (goOn o (run n) .left))
+go-on-through : (n b k : ℕ) (o : Outcome) → OutcomeHas Stepped o → ((m : Machine) → AcceptedMachine m → run n m .stop ≡ 0 → run b m ≡ later n (run n m .empty) (run k (run n m .left))) → goOn o (run n) .stop ≡ 0 → goOn o (run b) ≡ later (suc n) (goOn o (run n) .empty) (run k (goOn o (run n) .left))
 unfolding goOn
 go-on-through n b k (completed m) a ih e =
-    ap (later 1) (ih m a (sym (later-stop 1 (run n m)) ∙ e)) ∙ later-suc n _ ∙ ap (λ (x : Machine). later (suc n) (run k x)) (sym (later-left 1 (run n m)))
+    let t = m .core .regs .empties in
+    let r = run n (uncounted m) in
+    ap (later 1 t) (ih (uncounted m) (uncounted-in m a) (sym (later-stop t r) ∙ e)) ∙ later-suc n t (r .empty) _ ∙ sym (λ i. later (suc n) (later-empty t r i) (run k (later-left t r i)))
 go-on-through n b k (stopped s d m) a ih e = let l = a .0 in absurd (omega arith)
 
-pub run-through : (n k b : ℕ) → n + k ≡ b → (m : Machine) → AcceptedMachine m → run n m .stop ≡ 0 → run b m ≡ later n (run k (run n m .left))
+pub run-through : (n k b : ℕ) → n + k ≡ b → (m : Machine) → AcceptedMachine m → run n m .stop ≡ 0 → run b m ≡ later n (run n m .empty) (run k (run n m .left))
 unfolding run
-run-through zero k b h m a e = let q : b ≡ k = omega arith in ap (λ (x : ℕ). run x m) q ∙ sym (later-zero (run k m))
+run-through zero k b h m a e = let q : b ≡ k = omega arith in ap (λ (x : ℕ). run x m) q ∙ sym (later-zero (run k m) (run-most k m))
 run-through (suc n) k zero h m a e = absurd (omega arith)
 run-through (suc n) k (suc b) h m a e =
     go-on-through n b k (step m) (step-accepted m a) (λ m' a' e'. run-through n k b (omega arith) m' a' e') e
 
-go-on-ended : (n b : ℕ) (o : Outcome) → OutcomeHas AcceptedMachine o → ((m : Machine) → AcceptedMachine m → run n m .stop ≢ 0 → run b m ≡ run n m) → goOn o (run n) .stop ≢ 0 → goOn o (run b) ≡ goOn o (run n)
+go-on-ended : (n b : ℕ) (o : Outcome) → OutcomeHas Stepped o → ((m : Machine) → AcceptedMachine m → run n m .stop ≢ 0 → run b m ≡ run n m) → goOn o (run n) .stop ≢ 0 → goOn o (run b) ≡ goOn o (run n)
 unfolding goOn
-go-on-ended n b (completed m) a ih e = ap (later 1) (ih m a (λ z. e (later-stop 1 (run n m) ∙ z)))
+go-on-ended n b (completed m) a ih e =
+    let t = m .core .regs .empties in
+    ap (later 1 t) (ih (uncounted m) (uncounted-in m a) (λ z. e (later-stop t (run n (uncounted m)) ∙ z)))
 go-on-ended n b (stopped s d m) a ih e = refl
 
 pub run-ended : (n k b : ℕ) → n + k ≡ b → (m : Machine) → AcceptedMachine m → run n m .stop ≢ 0 → run b m ≡ run n m
@@ -253,15 +290,16 @@ unfolding runCall
 call-is b l h = ap (λ (t : Bool). cond t (ran (run b (lentMachine l))) (runRefused (runCheck l) l)) h
 
 pub call-on : (b : ℕ) (m : Machine) → AcceptedMachine m → runCall b (lentOf m) ≡ ran (run b m)
-call-on b m a = call-is b (lentOf m) (machine-accepted m a) ∙ ap (λ (x : Machine). ran (run b x)) (machine-back m)
+call-on b m a = call-is b (lentOf m) (machine-accepted m a) ∙ ap (λ (x : Machine). ran (run b x)) (machine-back m (a .none-counted))
 
 ran-left : (r : Run) → ran r .left ≡ lentOf (r .left)
 unfolding ran
 ran-left r = refl
 
-later-ran : (n : ℕ) (r : Run) → ran (later n r) ≡ laterCall n (ran r)
+-- a run behind another that spent its budget
+later-ran : (n : ℕ) (q r : Run) → q .steps ≡ n → ran (later n (q .empty) r) ≡ laterCall (ran q .answer) (ran r)
 unfolding ran later
-later-ran n r = refl
+later-ran n q r e = ap (λ (x : ℕ). ran (later x (q .empty) r)) (sym e)
 
 pub runs-accepted : RunsAccepted
 unfolding ran
@@ -278,7 +316,8 @@ runs-accepted b l h =
       through = λ n k q e.
           (let d = call-is n l h in
           let s : run n m .stop ≡ 0 = sym (ap (λ (x : Called Ran Lent). x .answer .stop) d) ∙ e in
-          c ∙ ap ran (run-through n k b q m a s) ∙ later-ran n (run k (run n m .left)) ∙ ap (laterCall n) (sym (ap (λ (x : Called Ran Lent). runCall k (x .left)) d ∙ call-on k (run n m .left) (run-ends n m a .left-in))));
+          let z = run-ends n m a in
+          c ∙ ap ran (run-through n k b q m a s) ∙ later-ran n (run n m) (run k (run n m .left)) (z .spent s) ∙ ap (laterCall (ran (run n m) .answer)) (sym (call-on k (run n m .left) (z .left-in))) ∙ sym (ap (λ (x : Called Ran Lent). laterCall (x .answer) (runCall k (x .left))) d));
       ended = λ n k q e.
           (let d = call-is n l h in
           c ∙ ap ran (run-ended n k b q m a (λ z. e (ap (λ (x : Called Ran Lent). x .answer .stop) d ∙ z))) ∙ sym d);

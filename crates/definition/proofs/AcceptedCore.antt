@@ -69,6 +69,7 @@ any-laws =
       to-pc = λ c f n h. with-registers c _ f h (f .spA) (f .aS) (f .bS);
       to-sp = λ c f n h. with-registers c _ f (f .pcA) h (f .aS) (f .bS);
       to-sr = λ l c f w. with-registers c _ f (f .pcA) (f .spA) (f .aS) (f .bS);
+      to-empties = λ c f n. with-registers c _ f (f .pcA) (f .spA) (f .aS) (f .bS);
       to-flag = λ c f k h on. with-registers c _ f (f .pcA) (f .spA) (f .aS) (f .bS);
     }
 
@@ -100,5 +101,6 @@ user-laws =
       to-pc = λ c u n h. record { accepted = any-laws .to-pc c (u .accepted) n h; clear = u .clear };
       to-sp = λ c u n h. record { accepted = any-laws .to-sp c (u .accepted) n h; clear = u .clear };
       to-sr = λ l. absurd l;
+      to-empties = λ c u n. record { accepted = any-laws .to-empties c (u .accepted) n; clear = u .clear };
       to-flag = λ c u k h on. record { accepted = any-laws .to-flag c (u .accepted) k h on; clear = put-other k on (c .regs .sr) (omega arith) 9 (λ e. omega arith) ∙ u .clear };
     }

@@ -11,7 +11,7 @@ use Rattle.definition.specs.declared.Wrapped.{Wrapped}
 use Rattle.definition.specs.declared.Quotient.{Quotient}
 use Rattle.definition.specs.declared.Quotient.the-variants.{Rounded, NoQuotient}
 use Rattle.definition.specs.declared.Word.{Word}
-use Rattle.definition.specs.declared.Word.the-variants.{Is, NotWord}
+use Rattle.definition.specs.declared.Word.the-variants.{Is, Empty, NotWord}
 use Rattle.definition.specs.declared.Address.{Address}
 use Rattle.definition.specs.declared.Address.the-variants.{At, NotAddress}
 use Rattle.definition.specs.declared.Found.{Found}
@@ -24,11 +24,11 @@ use Rattle.definition.specs.Constants.{ZERO, NEGATIVE, OVERFLOW}
 use Rattle.definition.specs.Word.{addressOf, isShift}
 use Rattle.definition.specs.Memory.{word, extractWord, asAddress, extractAddress, cellCount, cellAt, putCell, found, get}
 use Rattle.definition.specs.Registers as R
-use Rattle.definition.specs.Registers.{Reg, getReg, Put, assigned, refused, putReg, putPc, putSp, putSr, putFlag, supervisor, with-a, with-b, with-pc, with-sp, with-sr}
-use Rattle.definition.specs.Arguments.{Operand, none, imm, reg, dir, ind, idx, indexed, resolve, readThere, cellThere, extractCell}
+use Rattle.definition.specs.Registers.{Reg, getReg, Put, assigned, refused, putReg, putPc, putSp, putSr, putFlag, counted, supervisor, with-a, with-b, with-pc, with-sp, with-sr, with-empties}
+use Rattle.definition.specs.Arguments.{Operand, none, imm, reg, dir, ind, idx, indexed, resolve, resolved, readThere, cellThere, extractCell}
 use Rattle.definition.specs.Encoding as E
 use Rattle.definition.specs.Encoding.{Op, Extracted, instruction, noInstruction}
-use Rattle.definition.specs.Exec.{Core, with-regs, with-cells, Exec, Res, ok, err, andThen, _>>=_, _>>_, return, raise, branch, ask, change, orWord, orAddress, orCell, orGiven, orPut, assign, read, write, checkPrivileged, below, push, pop}
+use Rattle.definition.specs.Exec.{Core, with-regs, with-cells, Exec, Res, ok, err, andThen, _>>=_, _>>_, return, raise, branch, ask, change, orWord, takeWord, takeAddress, orAddress, orCell, orGiven, orPut, assign, read, write, checkPrivileged, below, push, pop}
 use Rattle.definition.specs.Instructions.{cellOf, wordOf, targetOf, registerWord, placeOf, setRegister, andFlags, signFlags, putResult, putWrapped, putCompared, putQuotient, putShifted, words, neg, notOp, jump, jumpIf, call, rtn, popOp, pushOp, ld, st, fas, swapBack, swap, rti, reset, Request, nothing, quiet, inOp, outOp, execute}
 use Rattle.definition.specs.Runtime.{orInstruction, fetch, Executed, attempt}
 use Rattle.definition.specs.Accepted.{Addr}
@@ -54,6 +54,7 @@ pub record Laws (I : Core → Type 0) (Sd : Cell → Type 0) (Loud : Type 0) (Q 
   pub to-pc : (c : Core) → I c → (n : ℕ) → Addr n → I (with-regs (with-pc n (c .regs)) c)
   pub to-sp : (c : Core) → I c → (n : ℕ) → Addr n → I (with-regs (with-sp n (c .regs)) c)
   pub to-sr : Loud → (c : Core) → I c → (w : ℤ) → I (with-regs (with-sr w (c .regs)) c)
+  pub to-empties : (c : Core) → I c → (n : ℕ) → I (with-regs (with-empties n (c .regs)) c)
   pub to-flag : (c : Core) → I c → (k : ℕ) → k < 8 → (on : Bool) → I (with-regs (putFlag k on (c .regs)) c)
 
 -- ---- addresses
@@ -74,6 +75,7 @@ addressOf-in (negsuc n) = tt
 asAddress-in : (w : Word) → AddressIn (asAddress w)
 unfolding asAddress
 asAddress-in (Is w) = addressOf-in w
+asAddress-in Empty = addressOf-in _
 asAddress-in NotWord = tt
 
 extractAddress-in : (v : Cell) → AddressIn (extractAddress v)
@@ -83,6 +85,7 @@ extractAddress-in v = asAddress-in (extractWord v)
 indexed-in : (w : Word) (k : ℤ) → AddressIn (indexed w k)
 unfolding indexed
 indexed-in (Is w) k = addressOf-in _
+indexed-in Empty k = addressOf-in _
 indexed-in NotWord k = tt
 
 resolve-in : (x : Operand) (s : Registers) → AddressIn (resolve x s)
@@ -135,8 +138,9 @@ module _ (I : Core → Type 0) (Sd : Cell → Type 0) (Loud : Type 0) (Q : Reque
   changes f h = record { at = λ c i. (tt, h c i) }
 
   good-word : (w : Word) (e : Error) (c : Core) → I c → Good Any (orWord w e c)
-  unfolding orWord
+  unfolding orWord counted
   good-word (Is w) e c i = (tt, i)
+  good-word Empty e c i = (tt, L .to-empties c i _)
   good-word NotWord e c i = i
 
   good-address : (a : Address) (e : Error) (c : Core) → AddressIn a → I c → Good Addr (orAddress a e c)
@@ -183,6 +187,22 @@ module _ (I : Core → Type 0) (Sd : Cell → Type 0) (Loud : Type 0) (Q : Reque
   reg-in R.SP c i = L .wordS _
   reg-in R.SR c i = L .wordS _
 
+  -- a word taken
+  counted-in : (w : Word) (c : Core) → I c → I (with-regs (counted w (c .regs)) c)
+  unfolding counted
+  counted-in (Is w) c i = i
+  counted-in Empty c i = L .to-empties c i _
+  counted-in NotWord c i = i
+
+  resolved-in : (x : Operand) (c : Core) → I c → I (with-regs (resolved x (c .regs)) c)
+  unfolding resolved
+  resolved-in none c i = i
+  resolved-in (imm w) c i = i
+  resolved-in (reg r) c i = i
+  resolved-in (dir w) c i = i
+  resolved-in (ind r) c i = counted-in _ c i
+  resolved-in (idx r k) c i = counted-in _ c i
+
   abbrev GivesSd : Given → Type 0
   GivesSd (Gives v) = Sd v
   GivesSd OutsideCells = Unit {0}
@@ -206,29 +226,30 @@ module _ (I : Core → Type 0) (Sd : Cell → Type 0) (Loud : Type 0) (Q : Reque
   k-assign : (f : Registers → Put) → ((c : Core) → I c → Takes c (f (c .regs))) → Keeps Any (assign f)
   k-assign f h = record { at = λ c i. good-put (f (c .regs)) c (h c i) i }
 
-  takes-pc : (c : Core) → I c → (a : Address) → AddressIn a → Takes c (putPc a (c .regs))
+  takes-pc : (c : Core) (s : Registers) → I (with-regs s c) → (a : Address) → AddressIn a → Takes c (putPc a s)
   unfolding putPc
-  takes-pc c i (At n) h = L .to-pc c i n h
-  takes-pc c i NotAddress h = tt
+  takes-pc c s i (At n) h = L .to-pc (with-regs s c) i n h
+  takes-pc c s i NotAddress h = tt
 
-  takes-sp : (c : Core) → I c → (a : Address) → AddressIn a → Takes c (putSp a (c .regs))
+  takes-sp : (c : Core) (s : Registers) → I (with-regs s c) → (a : Address) → AddressIn a → Takes c (putSp a s)
   unfolding putSp
-  takes-sp c i (At n) h = L .to-sp c i n h
-  takes-sp c i NotAddress h = tt
+  takes-sp c s i (At n) h = L .to-sp (with-regs s c) i n h
+  takes-sp c s i NotAddress h = tt
 
-  takes-sr : (c : Core) → I c → (b : Bool) → supervisor (c .regs) ≡ b → (w : Word) → Takes c (putSr b w (c .regs))
+  takes-sr : (c : Core) (s : Registers) → I (with-regs s c) → (b : Bool) → (b ≡ true → Loud) → (w : Word) → Takes c (putSr b w s)
   unfolding putSr
-  takes-sr c i true h (Is w) = L .to-sr (L .loud c i h) c i w
-  takes-sr c i true h NotWord = tt
-  takes-sr c i false h w = tt
+  takes-sr c s i true h (Is w) = L .to-sr (h refl) (with-regs s c) i w
+  takes-sr c s i true h Empty = L .to-sr (h refl) (with-regs s c) i (pos 0)
+  takes-sr c s i true h NotWord = tt
+  takes-sr c s i false h w = tt
 
   takes : (r : Reg) (v : Cell) → Sd v → (c : Core) → I c → Takes c (putReg r v (c .regs))
   unfolding putReg
   takes R.A v h c i = L .to-a c i v h
   takes R.B v h c i = L .to-b c i v h
-  takes R.PC v h c i = takes-pc c i _ (extractAddress-in v)
-  takes R.SP v h c i = takes-sp c i _ (extractAddress-in v)
-  takes R.SR v h c i = takes-sr c i _ refl _
+  takes R.PC v h c i = takes-pc c _ (counted-in (extractWord v) c i) _ (extractAddress-in v)
+  takes R.SP v h c i = takes-sp c _ (counted-in (extractWord v) c i) _ (extractAddress-in v)
+  takes R.SR v h c i = takes-sr c _ (counted-in (extractWord v) c i) (supervisor (c .regs)) (L .loud c i) _
 
   pub k-set : (r : Reg) (v : Cell) → Sd v → Keeps Any (setRegister r v)
   k-set r v h = k-assign (putReg r v) (takes r v h)
@@ -297,31 +318,25 @@ module _ (I : Core → Type 0) (Sd : Cell → Type 0) (Loud : Type 0) (Q : Reque
   cell-in (idx r k) c i = there-in c i _
 
   k-cell : (x : Operand) → Keeps Sd (cellOf x)
-  k-cell x = record { at = λ c i. good-given (extractCell x (c .cells) (c .regs)) c (cell-in x c i) i }
+  k-cell x = record { at = λ c i. good-given (extractCell x (c .cells) (c .regs)) _ (cell-in x c i) (resolved-in x c i) }
 
-  k-orWord : (w : Word) (e : Error) → Keeps Any (orWord w e)
-  k-orWord w e = record { at = λ c i. good-word w e c i }
+  k-takeWord : (v : Cell) (e : Error) → Keeps Any (takeWord v e)
+  k-takeWord v e = record { at = λ c i. good-word (extractWord v) e c i }
 
-  k-orAddress : (a : Address) (e : Error) → AddressIn a → Keeps Addr (orAddress a e)
-  k-orAddress a e h = record { at = λ c i. good-address a e c h i }
+  k-takeAddress : (v : Cell) (e : Error) → Keeps Addr (takeAddress v e)
+  k-takeAddress v e = seq (k-takeWord v e) (λ w h. record { at = λ c i. good-address (addressOf w) e c (addressOf-in w) i })
 
   k-word : (x : Operand) → Keeps Any (wordOf x)
-  k-word x = seq (k-cell x) (λ v s. k-orWord (extractWord v) Extract)
+  k-word x = seq (k-cell x) (λ v s. k-takeWord v _)
 
   k-target : (x : Operand) → Keeps Addr (targetOf x)
-  k-target x = seq (k-word x) (λ w h. k-orAddress (addressOf w) Extract (addressOf-in w))
+  k-target x = seq (k-cell x) (λ v s. k-takeAddress v _)
 
   k-register : (r : Reg) → Keeps Any (registerWord r)
-  k-register r = record { at = λ c i. good-word _ Extract c i }
+  k-register r = record { at = λ c i. k-takeWord (getReg r (c .regs)) Extract .at c i }
 
   k-place : (x : Operand) → Keeps Addr (placeOf x)
-  k-place x = record { at = λ c i. good-address _ CellError c (resolve-in x (c .regs)) i }
-
-  k-cellAddress : (v : Cell) (e : Error) → Keeps Addr (λ c. orAddress (extractAddress v) e c)
-  k-cellAddress v e = record { at = λ c i. good-address _ e c (extractAddress-in v) i }
-
-  k-cellWord : (v : Cell) (e : Error) → Keeps Any (λ c. orWord (extractWord v) e c)
-  k-cellWord v e = record { at = λ c i. good-word _ e c i }
+  k-place x = record { at = λ c i. good-address _ CellError _ (resolve-in x (c .regs)) (resolved-in x c i) }
 
   -- ---- the instructions
 
@@ -365,7 +380,7 @@ module _ (I : Core → Type 0) (Sd : Cell → Type 0) (Loud : Type 0) (Q : Reque
 
   k-rtn : Keeps Any rtn
   unfolding rtn
-  k-rtn = seq k-pop (λ v s. seq (k-cellAddress v _) (λ n h. changes (with-pc n) (λ c i. L .to-pc c i n h)))
+  k-rtn = seq k-pop (λ v s. seq (k-takeAddress v _) (λ n h. changes (with-pc n) (λ c i. L .to-pc c i n h)))
 
   k-popOp : (r : Reg) → Keeps Any (popOp r)
   unfolding popOp
@@ -410,7 +425,7 @@ module _ (I : Core → Type 0) (Sd : Cell → Type 0) (Loud : Type 0) (Q : Reque
   k-rti =
       seq
       k-check
-      (λ u l. seq (k-read 100 _) (λ v s. seq (k-cellAddress v _) (λ n h. seq (changes (with-pc n) (λ c i. L .to-pc c i n h)) (λ u h. seq (k-read 101 _) (λ v s. seq (k-cellWord v _) (λ w h. changes (with-sr w) (λ c i. L .to-sr l c i w)))))))
+      (λ u l. seq (k-read 100 _) (λ v s. seq (k-takeAddress v _) (λ n h. seq (changes (with-pc n) (λ c i. L .to-pc c i n h)) (λ u h. seq (k-read 101 _) (λ v s. seq (k-takeWord v _) (λ w h. changes (with-sr w) (λ c i. L .to-sr l c i w)))))))
 
   k-reset : Keeps Any reset
   unfolding reset

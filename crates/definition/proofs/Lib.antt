@@ -1,5 +1,6 @@
 pub mod Bits
 pub mod Words
+pub mod Total
 pub mod Encoding
 pub mod Course
 pub mod Cells

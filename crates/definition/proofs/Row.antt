@@ -13,9 +13,10 @@ use Rattle.definition.specs.declared.Address.the-variants.{At, NotAddres
 use Rattle.definition.specs.Constants.{CELLS-LEAST, CELLS-MOST, QUEUE-MOST, OUTPUT-MOST, CYCLES-END, ROW, ROW-PC, ROW-SP, ROW-SR, ROW-CYCLES, ROW-ENABLE, ROW-FLAG, ROW-PENDING, ROW-START, ROW-COUNT, ROW-WRITTEN}
 use Rattle.definition.specs.Word.{eqZ, addressOf}
 use Rattle.definition.specs.Memory.{cell, cellCount, cellAt}
+use Rattle.definition.specs.Registers.{with-empties}
 use Rattle.definition.specs.Encoding.{sound, isAddress}
 use Rattle.definition.specs.Io.{marked}
-use Rattle.definition.specs.Exec.{core}
+use Rattle.definition.specs.Exec.{core, with-regs}
 use Rattle.definition.specs.Runtime.{Machine, machine}
 use Rattle.definition.specs.Calls.{at, mark, machineOf, rowOf, Test, accepted, passes, isBelow, isMark, lowestDamaged, cellsTest, queueTest, outputTest, lengthTest, rowTests, damageTest, Lent, lent, lentMachine, lentOf, runCheck}
 use Rattle.definition.specs.UserMode.{Accepted}
@@ -28,10 +29,11 @@ mark-back : (b : Bool) → eqZ (mark b) (pos 1) ≡ b
 mark-back true = refl
 mark-back false = refl
 
-pub machine-back : (m : Machine) → lentMachine (lentOf m) ≡ m
+-- (the row has no place for a step's count of empty cells, which is 0 between steps)
+pub machine-back : (m : Machine) → m .core .regs .empties ≡ 0 → lentMachine (lentOf m) ≡ m
 unfolding machineOf rowOf
-machine-back m =
-    λ i. machine (m .core) (m .cycles) (record { marks = marked (mark-back (m .console .marks .enable) i) (mark-back (m .console .marks .flag) i) (mark-back (m .console .marks .pending) i); queue = m .console .queue; start = m .console .start; count = m .console .count; output = m .console .output; written = m .console .written })
+machine-back m e =
+    λ i. machine (with-regs (with-empties (sym e i) (m .core .regs)) (m .core)) (m .cycles) (record { marks = marked (mark-back (m .console .marks .enable) i) (mark-back (m .console .marks .flag) i) (mark-back (m .console .marks .pending) i); queue = m .console .queue; start = m .console .start; count = m .console .count; output = m .console .output; written = m .console .written })
 
 -- ---- no cell damaged, by the lowest address and by each
 
@@ -205,6 +207,7 @@ accepted-machine l h =
         count-in = let b = r .count .1 in omega arith;
         written-in = let b = r .written .1 in omega arith;
       };
+      none-counted = refl;
     }
 
 pub machine-accepted : (m : Machine) → AcceptedMachine m → Accepted (lentOf m)

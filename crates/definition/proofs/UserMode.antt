@@ -13,7 +13,7 @@ use Rattle.definition.specs.Memory.{cell, word, cellAt, isInstruction}
 use Rattle.definition.specs.Registers.{supervisor}
 use Rattle.definition.specs.Io.{Console}
 use Rattle.definition.specs.Exec.{core}
-use Rattle.definition.specs.Runtime.{Machine, turn, machine, hasHandler, enteredSr, enteredRegisters, enteredCore, Run, runs, run}
+use Rattle.definition.specs.Runtime.{Machine, turn, machine, hasHandler, enteredSr, enteredRegisters, enteredCore, Run, runs, uncounted, run}
 use Rattle.definition.specs.Runtime as M
 use Rattle.definition.specs.Calls.{Lent, lentMachine, lentOf, lentSupervisor, at, mark, machineOf, rowOf, Called, ran, runCall, calls, answers}
 use Rattle.definition.specs.UserMode.{Accepted, Alike, SameConsole, GoesNoFurther, Zeros, none, one, Entry, Whole, UserMode}
@@ -79,9 +79,9 @@ only-zeros (suc n ∷ ns) m a s f =
 
 -- ---- the two machines
 
-around-accepted : (k : Console) (v : Machine) → ConsoleIn k → AcceptedCore (v .core) → v .cycles < CYCLES-END → AcceptedMachine (around k v)
-around-accepted k v h c n =
-    record { core-in = c; cycles-in = n; console-in = marks-in k _ h }
+around-accepted : (k : Console) (v : Machine) → ConsoleIn k → AcceptedCore (v .core) → v .cycles < CYCLES-END → v .core .regs .empties ≡ 0 → AcceptedMachine (around k v)
+around-accepted k v h c n z =
+    record { core-in = c; cycles-in = n; console-in = marks-in k _ h; none-counted = z }
 
 entry-on : (n : ℕ) (ns : List ℕ) (l : Lent) → Entry ns (runCall n l .left) → Entry (n ∷ ns) l
 unfolding calls
@@ -122,17 +122,20 @@ run-steps b m a = ap (λ (c : Called Ran Lent). c .answer .steps) (call-on b m a
 
 -- the run at this place enters, and only budgets of 0 stand behind it
 module _ (k : Console) (v : Machine) (a : AcceptedMachine (around k v)) (ns : List ℕ) (z : Zeros ns) (b : ℕ) (r : RunIs b v) (l : Last b v) (before-is : run (l .n) (around k v) ≡ runAround k (run (l .n) v)) where
-  final : calls (b ∷ ns) (lentOf (around k v)) ≡ lentOf (M.entered (l .entry .code) (around k (l .entry .moment)))
+  final : calls (b ∷ ns) (lentOf (around k v)) ≡ lentOf (uncounted (M.entered (l .entry .code) (around k (l .entry .moment))))
   unfolding calls
   final =
       ap (calls ns) (call-left b (around k v) a)
       ∙ zeros-calls z (run b (around k v) .left) (run-ends b (around k v) a .left-in)
       ∙ ap (λ (x : Run). lentOf (x .left)) (r .is k)
-      ∙ ap (λ (w : Machine). lentOf (around k w)) (l .entry .leaves)
-      ∙ ap lentOf (around-entered k (l .entry .code) (l .entry .moment))
+      ∙ ap (λ (w : Machine). lentOf (around k w)) (l .leaves ∙ ap (λ (w : Machine). uncounted w) (l .entry .leaves))
+      ∙ ap (λ (w : Machine). lentOf (uncounted w)) (around-entered k (l .entry .code) (l .entry .moment))
 
-  last-left : run (l .n) (around k v) ≡ runAround k (runs 0 0 (l .n) (l .last))
+  last-left : run (l .n) (around k v) ≡ runAround k (runs 0 0 (l .n) (l .empty) (l .last))
   last-left = before-is ∙ ap (runAround k) (l .before)
+
+  last-none : l .last .core .regs .empties ≡ 0
+  last-none = subst (λ (x : Run). x .left .core .regs .empties ≡ 0) last-left (run-ends (l .n) (around k v) a .left-in .none-counted)
 
   entry-here : Entry (b ∷ ns) (lentOf (around k v))
   unfolding calls rowOf M.entered enteredCore enteredRegisters hasHandler
@@ -155,8 +158,8 @@ module _ (k : Console) (v : Machine) (a : AcceptedMachine (around k v)) (ns : Li
         user = lent-supervisor (around k (l .last)) ∙ l .user .clear;
         code = e .code;
         moment = around k (e .moment);
-        turns = ap turn (machine-back (around k (l .last))) ∙ turn-is k (l .last) (l .user) ∙ ap (turnAround k) (e .turns);
-        leaves = ap lentMachine final ∙ machine-back (M.entered (e .code) (around k (e .moment)));
+        turns = ap turn (machine-back (around k (l .last)) last-none) ∙ turn-is k (l .last) (l .user) ∙ ap (turnAround k) (e .turns);
+        leaves = ap lentMachine final ∙ machine-back (uncounted (M.entered (e .code) (around k (e .moment)))) refl;
         pc = ap (λ (x : Lent). at ROW-PC (x .row)) final;
         handler = ap (λ (x : Lent). isInstruction (cellAt (x .cells) 200)) final ∙ ap isInstruction (saved-handler (s .pc) (s .sr) (e .code) c low) ∙ e .handler;
         cell-100 = ap (λ (x : Lent). cellAt (x .cells) 100) final ∙ saved-pc (s .pc) (s .sr) (e .code) c low;
@@ -223,14 +226,15 @@ module _ (n : ℕ) (ns : List ℕ) (v : Machine) (k₁ k₂ : Console) (a₁ : A
       }
 
 module _ (k₁ k₂ : Console) (h₁ : ConsoleIn k₁) (h₂ : ConsoleIn k₂) where
-  list-on : (n : ℕ) (ns : List ℕ) (v : Machine) (u : User (v .core)) (c : v .cycles < CYCLES-END) → GoesNoFurther (n ∷ ns) (lentOf (around k₁ v)) → ((w : Machine) → User (w .core) → w .cycles < CYCLES-END → GoesNoFurther ns (lentOf (around k₁ w)) → UserCalls ns w k₁ k₂) → UserCalls (n ∷ ns) v k₁ k₂
-  list-on n ns v u c f ih = go (r .end)
+  list-on : (n : ℕ) (ns : List ℕ) (v : Machine) (u : User (v .core)) (c : v .cycles < CYCLES-END) (z : v .core .regs .empties ≡ 0) → GoesNoFurther (n ∷ ns) (lentOf (around k₁ v)) → ((w : Machine) → User (w .core) → w .cycles < CYCLES-END → w .core .regs .empties ≡ 0 → GoesNoFurther ns (lentOf (around k₁ w)) → UserCalls ns w k₁ k₂) → UserCalls (n ∷ ns) v k₁ k₂
+  unfolding supervisor
+  list-on n ns v u c z f ih = go (r .end)
     where
       a₁ : AcceptedMachine (around k₁ v)
-      a₁ = around-accepted k₁ v h₁ (u .accepted) c
+      a₁ = around-accepted k₁ v h₁ (u .accepted) c z
 
       a₂ : AcceptedMachine (around k₂ v)
-      a₂ = around-accepted k₂ v h₂ (u .accepted) c
+      a₂ = around-accepted k₂ v h₂ (u .accepted) c z
 
       w : Within n (around k₁ v)
       w = first-of n ns (around k₁ v) a₁ f
@@ -245,16 +249,16 @@ module _ (k₁ k₂ : Console) (h₁ : ConsoleIn k₁) (h₂ : ConsoleIn k₂) w
       g = subst (GoesNoFurther ns) (left-is n v k₁ a₁ r) (rest-of n ns (lentOf (around k₁ v)) f)
 
       go : RunEnd n v → UserCalls (n ∷ ns) v k₁ k₂
-      go (in-user u') = on-user n ns v k₁ k₂ a₁ a₂ r (ih (run n v .left) u' (b₁ .cycles-in) g)
+      go (in-user u') = on-user n ns v k₁ k₂ a₁ a₂ r (ih (run n v .left) u' (b₁ .cycles-in) (b₁ .none-counted) g)
       go (entered l) =
-          on-entry n ns v k₁ k₂ a₁ a₂ r (only-zeros ns (around k₁ (run n v .left)) b₁ (entry-sets (l .last) (run n v .left) (l .entry)) g) l (user-run k₁ (l .n) v u (λ i q. w i (let e = l .budget in omega arith)) .is)
+          on-entry n ns v k₁ k₂ a₁ a₂ r (only-zeros ns (around k₁ (run n v .left)) b₁ (ap (λ (x : Machine). supervisor (x .core .regs)) (l .leaves) ∙ entry-sets (l .last) (l .reached) (l .entry)) g) l (user-run k₁ (l .n) v u (λ i q. w i (let e = l .budget in omega arith)) .is)
 
-  user-calls : (ns : List ℕ) (v : Machine) → User (v .core) → v .cycles < CYCLES-END → GoesNoFurther ns (lentOf (around k₁ v)) → UserCalls ns v k₁ k₂
+  user-calls : (ns : List ℕ) (v : Machine) → User (v .core) → v .cycles < CYCLES-END → v .core .regs .empties ≡ 0 → GoesNoFurther ns (lentOf (around k₁ v)) → UserCalls ns v k₁ k₂
   unfolding calls answers
-  user-calls [] v u c f =
+  user-calls [] v u c z f =
       let clear : supervisor (v .core .regs) ≡ true → ⊥ = λ s. true≢false (sym s ∙ u .clear) in
       record { after = v; left₁ = refl; left₂ = refl; same = refl; entry₁ = λ s. absurd (clear s); entry₂ = λ s. absurd (clear s) }
-  user-calls (n ∷ ns) v u c f = list-on n ns v u c f (λ w u' c' f'. user-calls ns w u' c' f')
+  user-calls (n ∷ ns) v u c z f = list-on n ns v u c z f (λ w u' c' z' f'. user-calls ns w u' c' z' f')
 
 -- ---- the theorem
 
@@ -286,7 +290,7 @@ unfolding rowOf
 around-whole k₁ k₂ v a₁ a₂ u ns f =
     let in₁ : ConsoleIn k₁ = marks-in (around k₁ v .console) (k₁ .marks) (a₁ .console-in) in
     let in₂ : ConsoleIn k₂ = marks-in (around k₂ v .console) (k₂ .marks) (a₂ .console-in) in
-    let c = user-calls k₁ k₂ in₁ in₂ ns v u (a₁ .cycles-in) f in
+    let c = user-calls k₁ k₂ in₁ in₂ ns v u (a₁ .cycles-in) (a₁ .none-counted) f in
     let w = c .after in
     let alike : Alike (lentOf (around k₁ w)) (lentOf (around k₂ w)) = record { cells = refl; registers = same-row k₁ k₂ w; cycles = refl; pending = refl } in
     record {
@@ -315,7 +319,7 @@ around-same l₁ l₂ e =
     let p₇ = g 7 (omega arith) (omega arith) in
     let p₈ = g 8 (omega arith) (omega arith) in
     let p₉ = g 9 (omega arith) (omega arith) in
-    λ i. machine (core (e .cells i) (record { a = cell (p₁ i) (p₂ i) (p₃ i); b = cell (p₄ i) (p₅ i) (p₆ i); pc = natAbs (p₇ i); sp = natAbs (p₈ i); sr = p₉ i })) (natAbs (e .cycles i)) (console (lentMachine l₂ .console) (eqZ (e .pending i) (pos 1)))
+    λ i. machine (core (e .cells i) (record { a = cell (p₁ i) (p₂ i) (p₃ i); b = cell (p₄ i) (p₅ i) (p₆ i); pc = natAbs (p₇ i); sp = natAbs (p₈ i); sr = p₉ i; empties = 0 })) (natAbs (e .cycles i)) (console (lentMachine l₂ .console) (eqZ (e .pending i) (pos 1)))
 
 pub user-mode : UserMode
 unfolding lentSupervisor supervisor machineOf

@@ -11,6 +11,7 @@ use Rattle.definition.specs.declared.Cell.{Cell}
 use Rattle.definition.specs.declared.Ran.{Ran}
 use Rattle.definition.specs.Constants.{CELLS-LEAST, CELLS-MOST, QUEUE-MOST, OUTPUT-MOST, CYCLES-END, ROW, ROW-A, ROW-B, ROW-PC, ROW-SP, ROW-CYCLES, ROW-ENABLE, ROW-FLAG, ROW-PENDING, ROW-START, ROW-COUNT, ROW-WRITTEN}
 use Rattle.definition.specs.Word.{eqZ}
+use Rattle.definition.specs.Total.{total}
 use Rattle.definition.specs.Memory.{cellCount, cellAt}
 use Rattle.definition.specs.Encoding.{sound}
 use Rattle.definition.specs.Io.{Console}
@@ -91,13 +92,15 @@ pub record AcceptedMachine (m : Machine) : Type 0 where
   pub core-in : AcceptedCore (m .core)
   pub cycles-in : m .cycles < CYCLES-END
   pub console-in : ConsoleIn (m .console)
+  -- Between steps nothing is counted: the row has no place for it.
+  pub none-counted : m .core .regs .empties ≡ 0
 
 -- ---- calls of run
 
--- A call of run with n steps before it.
-abbrev pub laterCall : ℕ → Called Ran Lent → Called Ran Lent
-laterCall n c =
-    called (answer (done (c .answer .refusal) (c .answer .place)) (c .answer .stop) (c .answer .detail) (n + c .answer .steps)) (c .left)
+-- A call of run behind another, which answered a: the counts are summed.
+abbrev pub laterCall : Ran → Called Ran Lent → Called Ran Lent
+laterCall a c =
+    called (answer (done (c .answer .refusal) (c .answer .place)) (c .answer .stop) (c .answer .detail) (a .steps + c .answer .steps) (total (a .empty) (c .answer .empty))) (c .left)
 
 pub record RunLaws (budget : ℕ) (l : Lent) : Type 0 where
   -- A run of an accepted machine leaves an accepted machine.
@@ -108,7 +111,7 @@ pub record RunLaws (budget : ℕ) (l : Lent) : Type 0 where
   pub spent : runCall budget l .answer .stop ≡ 0 → runCall budget l .answer .steps ≡ budget
   pub whole : runCall budget l .answer .steps ≡ budget → runCall budget l .answer .stop ≡ 0
   -- "A run on a larger budget passes through the machine that each smaller one leaves."
-  pub through : (n k : ℕ) → n + k ≡ budget → runCall n l .answer .stop ≡ 0 → runCall budget l ≡ laterCall n (runCall k (runCall n l .left))
+  pub through : (n k : ℕ) → n + k ≡ budget → runCall n l .answer .stop ≡ 0 → runCall budget l ≡ laterCall (runCall n l .answer) (runCall k (runCall n l .left))
   pub ended : (n k : ℕ) → n + k ≡ budget → runCall n l .answer .stop ≢ 0 → runCall budget l ≡ runCall n l
 
 abbrev pub RunsAccepted : Type 0

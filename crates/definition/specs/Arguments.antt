@@ -1,11 +1,11 @@
 -- arguments.rs: the operands, one function a kind, and what each costs.
 use mathlib.Core.List.{List, [], _∷_}
 use Prim.Native.Nat.{ℕ}
-use lib.IntN.{ℤ, _+ℤ_}
+use lib.IntN.{ℤ, pos, _+ℤ_}
 use lib.ListN.{getD}
 use Rattle.definition.specs.declared.Registers.{Registers}
 use Rattle.definition.specs.declared.Word.{Word}
-use Rattle.definition.specs.declared.Word.the-variants.{Is, NotWord}
+use Rattle.definition.specs.declared.Word.the-variants.{Is, Empty, NotWord}
 use Rattle.definition.specs.declared.Address.{Address}
 use Rattle.definition.specs.declared.Address.the-variants.{At, NotAddress}
 use Rattle.definition.specs.declared.Found.{Found}
@@ -14,7 +14,7 @@ use Rattle.definition.specs.declared.Given.{Given}
 use Rattle.definition.specs.declared.Given.the-variants.{Gives, OutsideCells, NoAddress}
 use Rattle.definition.specs.Word.{wrap, addressOf}
 use Rattle.definition.specs.Memory.{word, extractWord, extractAddress, get}
-use Rattle.definition.specs.Registers.{Reg, regAt, getReg}
+use Rattle.definition.specs.Registers.{Reg, regAt, getReg, counted}
 
 -- "modes: 0 none, 1 immediate, 2 register, 3 direct, 4 indirect, 5 indexed"
 pub data Operand : Type 0 where
@@ -36,6 +36,7 @@ modeCost m = getD (0 ∷ 0 ∷ 0 ∷ 1 ∷ 1 ∷ 1 ∷ []) m 0
 -- "an indexed sum wraps at 64 bits before it is tested as an address"
 unfoldable pub indexed : Word → ℤ → Address
 indexed (Is w) k = addressOf (wrap (w +ℤ k))
+indexed Empty k = addressOf (wrap (pos 0 +ℤ k))
 indexed NotWord k = NotAddress
 
 -- ResolveAddress: the address that an operand names.
@@ -46,6 +47,15 @@ resolve (reg r) s = NotAddress
 resolve (dir w) s = addressOf w
 resolve (ind r) s = extractAddress (getReg r s)
 resolve (idx r k) s = indexed (extractWord (getReg r s)) k
+
+-- The registers after that: the word of an address register was taken, "registers a and b included".
+unfoldable pub resolved : Operand → Registers → Registers
+resolved none s = s
+resolved (imm w) s = s
+resolved (reg r) s = s
+resolved (dir w) s = s
+resolved (ind r) s = counted (extractWord (getReg r s)) s
+resolved (idx r k) s = counted (extractWord (getReg r s)) s
 
 -- "not below the count of cells"
 unfoldable pub readThere : Found → Given

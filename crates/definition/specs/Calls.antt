@@ -47,7 +47,7 @@ mark false = pos 0
 unfoldable pub machineOf : List ℤ → List ℕ → List ℕ → List ℤ → Machine
 machineOf cells queue output row =
     machine
-    (core cells (record { a = cellOfRow ROW-A row; b = cellOfRow ROW-B row; pc = numberOfRow ROW-PC row; sp = numberOfRow ROW-SP row; sr = at ROW-SR row }))
+    (core cells (record { a = cellOfRow ROW-A row; b = cellOfRow ROW-B row; pc = numberOfRow ROW-PC row; sp = numberOfRow ROW-SP row; sr = at ROW-SR row; empties = 0 }))
     (numberOfRow ROW-CYCLES row)
     (record { marks = marked (markOfRow ROW-ENABLE row) (markOfRow ROW-FLAG row) (markOfRow ROW-PENDING row); queue = queue; start = numberOfRow ROW-START row; count = numberOfRow ROW-COUNT row; output = output; written = numberOfRow ROW-WRITTEN row })
 
@@ -146,9 +146,9 @@ pub record Called (A : Type 0) (L : Type 0) : Type 0 where
 abbrev pub called : {A L : Type 0} → A → L → Called A L
 called a l = record { answer = a; left = l }
 
--- The answers, each with its verdict: stop, detail and steps of run, stop and detail of raise, the count drained, the cell read.
-abbrev pub answer : Done → ℕ → ℕ → ℕ → Ran
-answer d n k s = record { refusal = d .refusal; place = d .place; stop = n; detail = k; steps = s }
+-- The answers, each with its verdict: stop, detail, steps and empty reads of run, stop and detail of raise, the count drained, the cell read.
+abbrev pub answer : Done → ℕ → ℕ → ℕ → ℕ → Ran
+answer d n k s t = record { refusal = d .refusal; place = d .place; stop = n; detail = k; steps = s; empty = t }
 
 abbrev pub raiseAnswer : Done → ℕ → ℕ → Raised
 raiseAnswer d n k = record { refusal = d .refusal; place = d .place; stop = n; detail = k }
@@ -191,10 +191,10 @@ runCheck l =
     verdict (cellsTest (l .cells) ∷ queueTest (l .queue) ∷ outputTest (l .output) ∷ (rowTests (length (l .queue)) (length (l .output)) (l .row) ++ damageTest (l .cells) ∷ []))
 
 unfoldable pub ran : Run → Called Ran Lent
-ran r = called (answer accepted (r .stop) (r .detail) (r .steps)) (lentOf (r .left))
+ran r = called (answer accepted (r .stop) (r .detail) (r .steps) (r .empty)) (lentOf (r .left))
 
 unfoldable pub runRefused : Done → Lent → Called Ran Lent
-runRefused d l = called (answer d 0 0 0) l
+runRefused d l = called (answer d 0 0 0 0) l
 
 -- "run (cells, queue, output, row)"
 unfoldable pub runCall : ℕ → Lent → Called Ran Lent

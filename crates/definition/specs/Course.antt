@@ -43,17 +43,23 @@ abbrev case : ℕ → List Line → Cell → ℕ → ℕ → ℕ → ℕ → Cas
 case n i a pc sp b k =
     record { size = n; image = i; a = a; pc = pc; sp = sp; sr = pos 0; pending = pos 0; budget = b; look = k }
 
+-- with S set
+abbrev supervised : ℕ → List Line → ℕ → Case
+supervised n i k =
+    record { size = n; image = i; a = empty; pc = 0; sp = 0; sr = pos 512; pending = pos 0; budget = 1; look = k }
+
 -- with I set and the pending mark set
 abbrev interrupted : ℕ → List Line → ℕ → Case
 interrupted n i k =
     record { size = n; image = i; a = empty; pc = 0; sp = 0; sr = pos 256; pending = pos 1; budget = 1; look = k }
 
--- What is looked at afterwards: refusal, stop, detail and steps; pc, sp, sr, cycles, pending mark and output count; a and b; and one cell.
+-- What is looked at afterwards: refusal, stop, detail, steps and empty reads; pc, sp, sr, cycles, pending mark and output count; a and b; and one cell.
 pub record Shown : Type 0 where
   pub refusal : ℕ
   pub stop : ℕ
   pub detail : ℕ
   pub steps : ℕ
+  pub empty : ℕ
   pub pc : ℤ
   pub sp : ℤ
   pub sr : ℤ
@@ -66,7 +72,12 @@ pub record Shown : Type 0 where
 
 abbrev done : ℕ → ℕ → ℕ → ℤ → ℤ → ℤ → ℤ → Cell → Cell → Shown
 done stop detail steps pc sp sr cycles a v =
-    record { refusal = 0; stop = stop; detail = detail; steps = steps; pc = pc; sp = sp; sr = sr; cycles = cycles; pending = pos 0; written = pos 0; a = a; b = empty; there = v }
+    record { refusal = 0; stop = stop; detail = detail; steps = steps; empty = 0; pc = pc; sp = sp; sr = sr; cycles = cycles; pending = pos 0; written = pos 0; a = a; b = empty; there = v }
+
+-- with so many words of empty cells taken
+abbrev took : ℕ → Shown → Shown
+took n s =
+    record { refusal = s .refusal; stop = s .stop; detail = s .detail; steps = s .steps; empty = n; pc = s .pc; sp = s .sp; sr = s .sr; cycles = s .cycles; pending = s .pending; written = s .written; a = s .a; b = s .b; there = s .there }
 
 -- A case and what it shows.
 pub record Row : Type 0 where
@@ -77,7 +88,7 @@ abbrev gives : Case → Shown → Row
 gives c s = record { given = c; expected = s }
 
 -- add 5,%a · reset · div n,%a · shl n,%a · shr n,%a · nop · push 7 · swap [%a],%a · fas [5],%sr · ld [10000],%a · ld [%a],%a · call [10000] · st %a,[10000] ·
--- in [110],%a
+-- in [110],%a · swap [%a],%b · rti · jeq %a
 abbrev add5 : Cell
 add5 = cell (pos 202) (pos 5) (pos 0)
 
@@ -102,6 +113,9 @@ push7 = inst 22 1 0 0 0 (pos 7) (pos 0)
 abbrev swapA : Cell
 swapA = inst 30 4 2 0 0 (pos 0) (pos 0)
 
+abbrev swapB : Cell
+swapB = inst 30 4 2 0 1 (pos 0) (pos 0)
+
 abbrev fasSr : Cell
 fasSr = inst 5 3 2 0 4 (pos 5) (pos 0)
 
@@ -120,13 +134,19 @@ stOutside = inst 28 2 3 0 0 (pos 0) (pos 10000)
 abbrev inStatus : Cell
 inStatus = inst 6 3 2 0 0 (pos 110) (pos 0)
 
+abbrev rti : Cell
+rti = inst 24 0 0 0 0 (pos 0) (pos 0)
+
+abbrev jeqA : Cell
+jeqA = inst 8 2 0 0 0 (pos 0) (pos 0)
+
 abbrev one : Cell
 one = word (pos 1)
 
 unfoldable pub table : List Row
 table =
     -- "the run above"
-    gives (case 2048 (line 0 add5 ∷ line 1 reset ∷ []) empty 0 0 100000 1) (done 1 0 1 (pos 1) (pos 0) (pos 0) (pos 1) (word (pos 5)) reset)
+    gives (case 2048 (line 0 add5 ∷ line 1 reset ∷ []) empty 0 0 100000 1) (took 1 (done 1 0 1 (pos 1) (pos 0) (pos 0) (pos 1) (word (pos 5)) reset))
     -- "div 0,%a (3802,0,0), no handler: stop 2, code 1, pc moved"
     ∷ gives (case 256 (line 0 (div (pos 0)) ∷ []) empty 0 0 1 0) (done 2 1 0 (pos 1) (pos 0) (pos 0) (pos 0) empty (div (pos 0)))
     -- "smallest / -1: code 1; smallest / 1: kept"
@@ -151,7 +171,7 @@ table =
     -- "255 and 256 cells"
     ∷ gives
     (case 255 (line 0 nop ∷ []) empty 0 0 1 0)
-    (record { refusal = 1; stop = 0; detail = 0; steps = 0; pc = pos 0; sp = pos 0; sr = pos 0; cycles = pos 0; pending = pos 0; written = pos 0; a = empty; b = empty; there = nop })
+    (record { refusal = 1; stop = 0; detail = 0; steps = 0; empty = 0; pc = pos 0; sp = pos 0; sr = pos 0; cycles = pos 0; pending = pos 0; written = pos 0; a = empty; b = empty; there = nop })
     ∷ gives (case 256 (line 0 nop ∷ []) empty 0 0 1 255) (done 0 0 1 (pos 1) (pos 0) (pos 0) (pos 1) empty empty)
     -- "in, out and rti check S first": in [110],%a in user mode enters code 3
     ∷ gives (case 256 (line 0 inStatus ∷ line 200 nop ∷ []) empty 0 0 1 102) (done 0 0 1 (pos 200) (pos 0) (pos 512) (pos 1) empty (word (pos 3)))
@@ -160,7 +180,7 @@ table =
     -- "An exception step doesn't poll": code 1 is entered, I and the pending mark stay
     ∷ gives
     (interrupted 256 (line 0 (div (pos 0)) ∷ line 200 nop ∷ []) 102)
-    (record { refusal = 0; stop = 0; detail = 0; steps = 1; pc = pos 200; sp = pos 0; sr = pos 768; cycles = pos 1; pending = pos 1; written = pos 0; a = empty; b = empty; there = word (pos 1) })
+    (record { refusal = 0; stop = 0; detail = 0; steps = 1; empty = 1; pc = pos 200; sp = pos 0; sr = pos 768; cycles = pos 1; pending = pos 1; written = pos 0; a = empty; b = empty; there = word (pos 1) })
     -- "An operand read at an address not below the count of cells raises code 5": ld [%a],%a with 256 cells, up to the largest address
     ∷ gives (case 256 (line 0 ldA ∷ []) (word (pos 255)) 0 0 1 0) (done 0 0 1 (pos 1) (pos 0) (pos 0) (pos 2) empty ldA)
     ∷ gives (case 256 (line 0 ldA ∷ []) (word (pos 256)) 0 0 1 0) (done 2 5 0 (pos 1) (pos 0) (pos 0) (pos 0) (word (pos 256)) ldA)
@@ -170,11 +190,16 @@ table =
     ∷ gives (case 256 (line 0 ldA ∷ []) (word (pos 4294967296)) 0 0 1 0) (done 4 0 0 (pos 1) (pos 0) (pos 0) (pos 0) (word (pos 4294967296)) ldA)
     -- "with all earlier effects of the instruction standing": call [10000] has pushed
     ∷ gives (case 256 (line 0 callOutside ∷ []) empty 0 10 1 9) (done 2 5 0 (pos 1) (pos 9) (pos 0) (pos 0) empty one)
+    -- "Where a step takes a word twice, as swap does for its address, both count": swap [%a],%b with a and b empty, which carries two cells
+    ∷ gives (case 256 (line 1 swapB ∷ []) empty 1 0 1 1) (took 2 (done 0 0 1 (pos 2) (pos 0) (pos 0) (pos 2) empty swapB))
+    -- rti takes the words of cells 100 and 101; jeq %a, not taken, takes none
+    ∷ gives (supervised 256 (line 0 rti ∷ []) 0) (took 2 (done 0 0 1 (pos 0) (pos 0) (pos 0) (pos 1) empty rti))
+    ∷ gives (case 256 (line 0 jeqA ∷ []) empty 0 0 1 0) (done 0 0 1 (pos 1) (pos 0) (pos 0) (pos 1) empty jeqA)
     -- "pc 9,999 fetches, 10,000 code 5"
     ∷ gives (case 10000 (line 9999 nop ∷ []) empty 9999 0 2 9999) (done 2 5 1 (pos 10000) (pos 0) (pos 0) (pos 1) empty nop)
     -- "The `ld [10000],%a` case becomes code 5"; "st to it: code 5"
     ∷ gives (case 10000 (line 9998 ldOutside ∷ []) empty 9998 0 1 9998) (done 2 5 0 (pos 9999) (pos 0) (pos 0) (pos 0) empty ldOutside)
-    ∷ gives (case 10000 (line 9998 stOutside ∷ line 200 nop ∷ []) empty 9998 0 1 102) (done 0 0 1 (pos 200) (pos 0) (pos 512) (pos 1) empty (word (pos 5)))
+    ∷ gives (case 10000 (line 9998 stOutside ∷ line 200 nop ∷ []) empty 9998 0 1 102) (took 1 (done 0 0 1 (pos 200) (pos 0) (pos 512) (pos 1) empty (word (pos 5))))
     ∷ []
 
 -- ---- what a case gives
@@ -194,7 +219,7 @@ lentCase c =
 unfoldable pub shown : ℕ → Called Ran Lent → Shown
 shown look r =
     let row = r .left .row in
-    record { refusal = r .answer .refusal; stop = r .answer .stop; detail = r .answer .detail; steps = r .answer .steps; pc = at ROW-PC row; sp = at ROW-SP row; sr = at ROW-SR row; cycles = at ROW-CYCLES row; pending = at ROW-PENDING row; written = at ROW-WRITTEN row; a = cellOfRow ROW-A row; b = cellOfRow ROW-B row; there = cellAt (r .left .cells) look }
+    record { refusal = r .answer .refusal; stop = r .answer .stop; detail = r .answer .detail; steps = r .answer .steps; empty = r .answer .empty; pc = at ROW-PC row; sp = at ROW-SP row; sr = at ROW-SR row; cycles = at ROW-CYCLES row; pending = at ROW-PENDING row; written = at ROW-WRITTEN row; a = cellOfRow ROW-A row; b = cellOfRow ROW-B row; there = cellAt (r .left .cells) look }
 
 -- Each row shows what it should.
 unfoldable pub Shows : List Row → Type 0

@@ -3,12 +3,12 @@
 use mathlib.Core.Bool.{Bool, true, false}
 use mathlib.Core.List.{List}
 use Prim.Native.Nat.{ℕ, zero, suc}
-use lib.IntN.{ℤ}
+use lib.IntN.{ℤ, pos}
 use lib.Dec.{ltb}
 use Rattle.definition.specs.declared.Cell.{Cell}
 use Rattle.definition.specs.declared.Registers.{Registers}
 use Rattle.definition.specs.declared.Word.{Word}
-use Rattle.definition.specs.declared.Word.the-variants.{Is, NotWord}
+use Rattle.definition.specs.declared.Word.the-variants.{Is, Empty, NotWord}
 use Rattle.definition.specs.declared.Address.{Address}
 use Rattle.definition.specs.declared.Address.the-variants.{At, NotAddress}
 use Rattle.definition.specs.declared.Found.{Found}
@@ -17,8 +17,9 @@ use Rattle.definition.specs.declared.Given.{Given}
 use Rattle.definition.specs.declared.Given.the-variants.{Gives, OutsideCells, NoAddress}
 use Rattle.definition.specs.declared.Error.{Error}
 use Rattle.definition.specs.declared.Error.the-variants.{PrivilegedInstruction, InvalidMemoryAccess, Extract}
-use Rattle.definition.specs.Memory.{cellCount, putCell, get}
-use Rattle.definition.specs.Registers.{Put, assigned, refused, supervisor, with-sp}
+use Rattle.definition.specs.Word.{addressOf}
+use Rattle.definition.specs.Memory.{extractWord, cellCount, putCell, get}
+use Rattle.definition.specs.Registers.{Put, assigned, refused, supervisor, with-sp, counted}
 
 -- Cells and registers.
 pub record Core : Type 0 where
@@ -73,14 +74,24 @@ ask f = λ c. ok (f (c .regs)) c
 abbrev pub change : (Registers → Registers) → Exec (Unit {0})
 change f = λ c. ok tt (with-regs (f (c .regs)) c)
 
--- What may be missing, or else the error.
+-- What may be missing, or else the error. An empty cell's word is 0, and is counted.
 unfoldable pub orWord : Word → Error → Exec ℤ
 orWord (Is w) e = return w
+orWord Empty e = λ c. ok (pos 0) (with-regs (counted Empty (c .regs)) c)
 orWord NotWord e = raise e
 
 unfoldable pub orAddress : Address → Error → Exec ℕ
 orAddress (At n) e = return n
 orAddress NotAddress e = raise e
+
+-- Cell::extract_word and Cell::extract_address: a cell's word or address, or the error.
+abbrev pub takeWord : Cell → Error → Exec ℤ
+takeWord v e = λ c. orWord (extractWord v) e c
+
+abbrev pub takeAddress : Cell → Error → Exec ℕ
+takeAddress v e = do
+  w ← takeWord v e
+  orAddress (addressOf w) e
 
 unfoldable pub orCell : Found → Error → Exec Cell
 orCell (Here v) e = return v

@@ -10,36 +10,36 @@ use Rattle.definition.specs.declared.Quotient.{Quotient}
 use Rattle.definition.specs.declared.Quotient.the-variants.{Rounded, NoQuotient}
 use Rattle.definition.specs.declared.Error.the-variants.{DivByZero, InvalidInstruction, Trap, InvalidMemoryAccess, CellError, Extract, Reset}
 use Rattle.definition.specs.Constants.{ZERO, NEGATIVE, OVERFLOW, INTERRUPT-PC-SAVE, INTERRUPT-SR-SAVE}
-use Rattle.definition.specs.Word.{eqZ, addressOf, wrapped, quotient, isShift, shlW, shrW, andW, orW, xorW, notW, bit}
-use Rattle.definition.specs.Memory.{word, extractWord, extractAddress}
+use Rattle.definition.specs.Word.{eqZ, wrapped, quotient, isShift, shlW, shrW, andW, orW, xorW, notW, bit}
+use Rattle.definition.specs.Memory.{word}
 use Rattle.definition.specs.Registers.{Reg, getReg, putReg, Put, assigned, refused, putFlag, with-pc, with-sr}
-use Rattle.definition.specs.Arguments.{Operand, none, imm, reg, dir, ind, idx, resolve, extractCell}
-use Rattle.definition.specs.Exec.{Exec, _>>=_, _>>_, return, raise, branch, ask, change, orWord, orAddress, orGiven, assign, read, write, checkPrivileged, push, pop}
+use Rattle.definition.specs.Arguments.{Operand, none, imm, reg, dir, ind, idx, resolve, resolved, extractCell}
+use Rattle.definition.specs.Exec.{with-regs, Exec, _>>=_, _>>_, return, raise, branch, ask, change, takeWord, takeAddress, orAddress, orGiven, assign, read, write, checkPrivileged, push, pop}
 use Rattle.definition.specs.Encoding as E
 use Rattle.definition.specs.Encoding.{Op, Instruction}
 
 -- An operand's cell, word or address, and the word of a register: "any other operand, register or jump target that cannot be taken is
 -- stop 4".
 abbrev pub cellOf : Operand → Exec Cell
-cellOf x = λ c. orGiven (extractCell x (c .cells) (c .regs)) c
+cellOf x = λ c. orGiven (extractCell x (c .cells) (c .regs)) (with-regs (resolved x (c .regs)) c)
 
 abbrev pub wordOf : Operand → Exec ℤ
 wordOf x = do
   v ← cellOf x
-  orWord (extractWord v) Extract
+  takeWord v Extract
 
 abbrev pub targetOf : Operand → Exec ℕ
 targetOf x = do
-  w ← wordOf x
-  orAddress (addressOf w) Extract
+  v ← cellOf x
+  takeAddress v Extract
 
 abbrev pub registerWord : Reg → Exec ℤ
-registerWord r = λ c. orWord (extractWord (getReg r (c .regs))) Extract c
+registerWord r = λ c. takeWord (getReg r (c .regs)) Extract c
 
 -- The address that an operand names: "Stop 3 is a word or address that rti or rtn cannot take, or that st, fas, in, out or swap's write
 -- cannot take for the address alone".
 abbrev pub placeOf : Operand → Exec ℕ
-placeOf x = λ c. orAddress (resolve x (c .regs)) CellError c
+placeOf x = λ c. orAddress (resolve x (c .regs)) CellError (with-regs (resolved x (c .regs)) c)
 
 abbrev pub setRegister : Reg → Cell → Exec (Unit {0})
 setRegister r v = assign (putReg r v)
@@ -111,7 +111,7 @@ call x = do
 unfoldable pub rtn : Exec (Unit {0})
 rtn = do
   v ← pop
-  n ← λ c. orAddress (extractAddress v) CellError c
+  n ← takeAddress v CellError
   change (with-pc n)
 
 unfoldable pub popOp : Reg → Exec (Unit {0})
@@ -173,10 +173,10 @@ unfoldable pub rti : Exec (Unit {0})
 rti = do
   checkPrivileged
   v ← read INTERRUPT-PC-SAVE InvalidMemoryAccess
-  n ← λ c. orAddress (extractAddress v) CellError c
+  n ← takeAddress v CellError
   change (with-pc n)
   u ← read INTERRUPT-SR-SAVE InvalidMemoryAccess
-  w ← λ c. orWord (extractWord u) CellError c
+  w ← takeWord u CellError
   change (with-sr w)
 
 -- "reset leaves pc on itself": one less than after the fetch.

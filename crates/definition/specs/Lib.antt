@@ -1,5 +1,6 @@
 pub mod Constants
 pub mod Word
+pub mod Total
 pub mod Exception
 pub mod Memory
 pub mod Registers

@@ -8,7 +8,7 @@ use lib.ListN.{length, getD, set}
 use lib.Dec.{ltb}
 use Rattle.definition.specs.declared.Cell.{Cell}
 use Rattle.definition.specs.declared.Word.{Word}
-use Rattle.definition.specs.declared.Word.the-variants.{Is, NotWord}
+use Rattle.definition.specs.declared.Word.the-variants.{Is, Empty, NotWord}
 use Rattle.definition.specs.declared.Address.{Address}
 use Rattle.definition.specs.declared.Address.the-variants.{NotAddress}
 use Rattle.definition.specs.declared.Found.{Found}
@@ -25,18 +25,19 @@ empty = cell (pos 0) (pos 0) (pos 0)
 abbrev pub word : ℤ → Cell
 word w = cell (pos 1) w (pos 0)
 
--- Cell::extract_word: "Empty reads as word 0", an instruction has no word.
+-- Cell::extract_word: "Empty reads as word 0", which is told apart; an instruction has no word.
 unfoldable pub wordAt : ℤ → ℤ → Word
-wordAt (pos zero) f = Is (pos 0)
+wordAt (pos zero) f = Empty
 wordAt (pos (suc zero)) f = Is f
 wordAt (pos (suc (suc t))) f = NotWord
-wordAt (negsuc n) f = Is (pos 0)
+wordAt (negsuc n) f = Empty
 
 unfoldable pub extractWord : Cell → Word
 extractWord v = wordAt (v .tag) (v .first)
 
 unfoldable pub asAddress : Word → Address
 asAddress (Is w) = addressOf w
+asAddress Empty = addressOf (pos 0)
 asAddress NotWord = NotAddress
 
 -- Cell::extract_address

@@ -7,13 +7,14 @@ use lib.ListN.{getD}
 use Rattle.definition.specs.declared.Cell.{Cell}
 use Rattle.definition.specs.declared.Registers.{Registers}
 use Rattle.definition.specs.declared.Word.{Word}
-use Rattle.definition.specs.declared.Word.the-variants.{Is, NotWord}
+use Rattle.definition.specs.declared.Word.the-variants.{Is, Empty, NotWord}
 use Rattle.definition.specs.declared.Address.{Address}
 use Rattle.definition.specs.declared.Address.the-variants.{At, NotAddress}
 use Rattle.definition.specs.declared.Error.{Error}
 use Rattle.definition.specs.declared.Error.the-variants.{PrivilegedInstruction, InvalidPc, InvalidSp, InvalidSr}
 use Rattle.definition.specs.Constants.{SUPERVISOR, INTERRUPT-ENABLE}
 use Rattle.definition.specs.Word.{bit, putBit}
+use Rattle.definition.specs.Total.{total}
 use Rattle.definition.specs.Memory.{word, extractWord, extractAddress}
 
 pub data Reg : Type 0 where
@@ -29,19 +30,30 @@ regAt r = getD regs r A
 
 -- One register changed.
 abbrev pub with-a : Cell → Registers → Registers
-with-a v s = record { a = v; b = s .b; pc = s .pc; sp = s .sp; sr = s .sr }
+with-a v s = record { a = v; b = s .b; pc = s .pc; sp = s .sp; sr = s .sr; empties = s .empties }
 
 abbrev pub with-b : Cell → Registers → Registers
-with-b v s = record { a = s .a; b = v; pc = s .pc; sp = s .sp; sr = s .sr }
+with-b v s = record { a = s .a; b = v; pc = s .pc; sp = s .sp; sr = s .sr; empties = s .empties }
 
 abbrev pub with-pc : ℕ → Registers → Registers
-with-pc n s = record { a = s .a; b = s .b; pc = n; sp = s .sp; sr = s .sr }
+with-pc n s = record { a = s .a; b = s .b; pc = n; sp = s .sp; sr = s .sr; empties = s .empties }
 
 abbrev pub with-sp : ℕ → Registers → Registers
-with-sp n s = record { a = s .a; b = s .b; pc = s .pc; sp = n; sr = s .sr }
+with-sp n s = record { a = s .a; b = s .b; pc = s .pc; sp = n; sr = s .sr; empties = s .empties }
 
 abbrev pub with-sr : ℤ → Registers → Registers
-with-sr w s = record { a = s .a; b = s .b; pc = s .pc; sp = s .sp; sr = w }
+with-sr w s = record { a = s .a; b = s .b; pc = s .pc; sp = s .sp; sr = w; empties = s .empties }
+
+-- The count of empty reads is no register: it goes where they go, from the step's beginning to its end.
+abbrev pub with-empties : ℕ → Registers → Registers
+with-empties n s = record { a = s .a; b = s .b; pc = s .pc; sp = s .sp; sr = s .sr; empties = n }
+
+-- "Taking a word (`Cell::extract_word`) now also tells whether the cell was empty": the registers once the word w was taken. Every word that
+-- an instruction takes is counted here.
+unfoldable pub counted : Word → Registers → Registers
+counted (Is w) s = s
+counted Empty s = with-empties (total (s .empties) 1) s
+counted NotWord s = s
 
 -- StatusRegister::set of one flag
 abbrev pub putFlag : ℕ → Bool → Registers → Registers
@@ -79,12 +91,13 @@ putSp NotAddress s = refused InvalidSp
 unfoldable pub putSr : Bool → Word → Registers → Put
 putSr false w s = refused PrivilegedInstruction
 putSr true (Is w) s = assigned (with-sr w s)
+putSr true Empty s = assigned (with-sr (pos 0) s)
 putSr true NotWord s = refused InvalidSr
 
--- Computer::set_register
+-- Computer::set_register. pc, sp and sr take the cell's word; where a value is refused, none was taken from an empty cell.
 unfoldable pub putReg : Reg → Cell → Registers → Put
 putReg A v s = assigned (with-a v s)
 putReg B v s = assigned (with-b v s)
-putReg PC v s = putPc (extractAddress v) s
-putReg SP v s = putSp (extractAddress v) s
-putReg SR v s = putSr (supervisor s) (extractWord v) s
+putReg PC v s = putPc (extractAddress v) (counted (extractWord v) s)
+putReg SP v s = putSp (extractAddress v) (counted (extractWord v) s)
+putReg SR v s = putSr (supervisor s) (extractWord v) (counted (extractWord v) s)

@@ -8,9 +8,10 @@ use Rattle.definition.specs.declared.Registers.{Registers}
 use Rattle.definition.specs.declared.Error.the-variants.{InvalidInstruction, InvalidMemoryAccess}
 use Rattle.definition.specs.Constants.{INTERRUPT-PC-SAVE, INTERRUPT-SR-SAVE, INTERRUPT-EXCEPTION, INTERRUPT-HANDLER, INTERRUPT-ENABLE, SUPERVISOR, CYCLES-END}
 use Rattle.definition.specs.Word.{putBit}
+use Rattle.definition.specs.Total.{total}
 use Rattle.definition.specs.Exception.{Ending, exception, stop, ending, HARDWARE-INTERRUPT, BUDGET-SPENT, NO-HANDLER, OUTPUT-FULL, CYCLES-FULL}
 use Rattle.definition.specs.Memory.{word, cellAt, putCell, isInstruction}
-use Rattle.definition.specs.Registers.{with-pc, with-sr, interruptEnable}
+use Rattle.definition.specs.Registers.{with-pc, with-sr, with-empties, interruptEnable}
 use Rattle.definition.specs.Encoding.{Instruction, Extracted, instruction, noInstruction, extractInstruction}
 use Rattle.definition.specs.Io.{Console, with-marks, with-pending, readPort, writePort, outputFull}
 use Rattle.definition.specs.Exec.{Core, with-regs, with-cells, Exec, Res, ok, err, _>>=_, _>>_, return, raise, ask, change, read}
@@ -168,20 +169,26 @@ pub record Run : Type 0 where
   pub stop : ℕ
   pub detail : ℕ
   pub steps : ℕ
+  pub empty : ℕ
   pub left : Machine
 
-abbrev pub runs : ℕ → ℕ → ℕ → Machine → Run
-runs n d s m = record { stop = n; detail = d; steps = s; left = m }
+abbrev pub runs : ℕ → ℕ → ℕ → ℕ → Machine → Run
+runs n d s t m = record { stop = n; detail = d; steps = s; empty = t; left = m }
 
--- A run with k steps before it.
-unfoldable pub later : ℕ → Run → Run
-later k r = runs (r .stop) (r .detail) (k + r .steps) (r .left)
+-- The count of empty reads starts again with every step.
+abbrev pub uncounted : Machine → Machine
+uncounted m = with-core (with-regs (with-empties 0 (m .core .regs)) (m .core)) m
 
+-- A run with k steps before it, which took t words of empty cells: "a run reports the total over its completed steps".
+unfoldable pub later : ℕ → ℕ → Run → Run
+later k t r = runs (r .stop) (r .detail) (k + r .steps) (total t (r .empty)) (r .left)
+
+-- A step that stops counts nothing; one that enters the handler counts what it took before.
 unfoldable pub goOn : Outcome → (Machine → Run) → Run
-goOn (completed m) k = later 1 (k m)
-goOn (stopped n d m) k = runs n d 0 m
+goOn (completed m) k = later 1 (m .core .regs .empties) (k (uncounted m))
+goOn (stopped n d m) k = runs n d 0 0 (uncounted m)
 
 -- "Steps counts completed steps only". "0 is given exactly when steps equals the budget, and no further step is then begun."
 unfoldable pub run : ℕ → Machine → Run
-run zero m = runs BUDGET-SPENT 0 0 m
+run zero m = runs BUDGET-SPENT 0 0 0 m
 run (suc n) m = goOn (step m) (run n)

@@ -7,7 +7,7 @@ use lib.IntN.{pos}
 use Rattle.definition.specs.Constants.{ROW-A, ROW-PC, ROW-SR, ROW-CYCLES, ROW-ENABLE, ROW-FLAG, ROW-PENDING, ROW-START, ROW-COUNT, ROW-WRITTEN}
 use Rattle.definition.specs.Memory.{word, cellAt, isInstruction}
 use Rattle.definition.specs.Registers.{supervisor}
-use Rattle.definition.specs.Runtime.{Machine, turn, enters, entered, enteredSr}
+use Rattle.definition.specs.Runtime.{Machine, turn, enters, entered, enteredSr, uncounted}
 use Rattle.definition.specs.Calls.{Lent, lentMachine, lentSupervisor, at, passes, runCheck, runCall, calls, answers}
 
 -- "Accepted: run doesn't refuse it."
@@ -60,7 +60,7 @@ pub record Entry (ns : List ℕ) (l : Lent) : Type 0 where
   pub code : ℕ
   pub moment : Machine
   pub turns : turn (lentMachine last) ≡ enters code moment
-  pub leaves : lentMachine (calls ns l) ≡ entered code moment
+  pub leaves : lentMachine (calls ns l) ≡ uncounted (entered code moment)
   -- "ends at pc 200, an instruction there, with the pc and status word of the moment of entry in cells 100 and 101, supervisor clear in
   -- that word, and a code 0 to 5 in cell 102"
   pub pc : at ROW-PC (calls ns l .row) ≡ pos 200
@@ -81,7 +81,8 @@ pub record Whole (l₁ l₂ : Lent) (ns : List ℕ) : Type 0 where
   pub accepted₂ : (before after : List ℕ) → ns ≡ before ++ after → Accepted (calls before l₂)
   -- "then the two are still alike in those four"
   pub alike : Alike (calls ns l₁) (calls ns l₂)
-  -- "every run gave both the same stop, detail and step count"
+  -- "every run gave both the same stop, detail and step count". "Two user-mode runs that match as in the third demand also match in" the
+  -- total of empty reads.
   pub same : answers ns l₁ ≡ answers ns l₂
   -- "and each console, pending mark aside, is as it was"
   pub console₁ : SameConsole l₁ (calls ns l₁)

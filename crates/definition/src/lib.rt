@@ -8,13 +8,15 @@ pub struct Cell {
     pub second: i64,
 }
 
-// The five registers, as in registers.rs.
+// The five registers, as in registers.rs, and beside them the count of empty reads of the step that is under way.
 pub struct Registers {
     pub a: Cell,
     pub b: Cell,
     pub pc: u32,
     pub sp: u32,
     pub sr: i64,
+    // No register: how many of the words that the step has taken so far were an empty cell's. Each step begins at 0.
+    pub empties: u64,
 }
 
 // The console's three marks (document 01's word): in io.rs irq_on_ready, interrupt_flag and pending_irq.
@@ -24,9 +26,10 @@ pub struct Marks {
     pub pending: bool,
 }
 
-// The word that a cell gives, if it does.
+// The word that a cell gives, if it does. Empty reads as word 0, and is told apart.
 pub enum Word {
     Is(i64),
+    Empty,
     NotWord,
 }
 
@@ -90,6 +93,7 @@ pub struct Ran {
     pub stop: u64,
     pub detail: u64,
     pub steps: u64,
+    pub empty: u64,
 }
 
 #[repr(C)]

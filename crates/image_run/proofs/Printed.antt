@@ -20,7 +20,7 @@ use Rattle.report.specs.Text.{refusalText}
 use Rattle.image_run.specs.Image.{imageText, printed}
 use Rattle.image_run.proofs.Laws.{refused-report, image-report}
 
--- An image gives the seven lines of its run.
+-- An image gives the lines of its run.
 pub image-printed : {n : ℕ} {s : List ℕ} {pc sp sr : ℤ} {m : List ℤ} → length s < 18446744073709551615 → Image n s pc sp sr m → printed s ≡ imageText m (startOf pc sp sr)
 unfolding printed
 image-printed {s = s} {pc} {sp} {sr} {m} h i =

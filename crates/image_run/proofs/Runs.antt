@@ -28,7 +28,7 @@ use Rattle.image_run.specs.Image.{imageRow, imageRun}
 -- The machine that an image starts: a and b empty, no cycle, nothing on the console.
 abbrev pub startMachine : List ℤ → ℕ → ℕ → ℤ → Machine
 startMachine cells pc sp sr =
-    machine (core cells (record { a = empty; b = empty; pc = pc; sp = sp; sr = sr })) 0 (record { marks = I.marked false false false; queue = replicate 256 0; start = 0; count = 0; output = replicate 4096 0; written = 0 })
+    machine (core cells (record { a = empty; b = empty; pc = pc; sp = sp; sr = sr; empties = 0 })) 0 (record { marks = I.marked false false false; queue = replicate 256 0; start = 0; count = 0; output = replicate 4096 0; written = 0 })
 
 empty-sound : Sound empty
 unfolding sound soundAt
@@ -57,17 +57,17 @@ addresses (G.image (G.startLine ra rb rc okPc okSp) cs) = (okPc, okSp)
 
 start-accepted : {n : ℕ} {t : List ℕ} {pc sp sr : ℤ} {m : List ℤ} → Image n t pc sp sr m → AcceptedMachine (startMachine m (natAbs pc) (natAbs sp) sr)
 start-accepted {pc = pc} {sp} {sr} (G.image (G.startLine ra rb rc okPc okSp) cs) =
-    let s : Registers = record { a = empty; b = empty; pc = natAbs pc; sp = natAbs sp; sr = sr } in
+    let s : Registers = record { a = empty; b = empty; pc = natAbs pc; sp = natAbs sp; sr = sr; empties = 0 } in
     let p = address-in pc okPc in
     let q = address-in sp okSp in
     let c = empty-core 2048 (omega arith) (omega arith) s (p .1) (q .1) empty-sound empty-sound in
-    record { core-in = lines-accepted s cs c refl .0; cycles-in = omega arith; console-in = record { some = omega arith; few = omega arith; small = omega arith; start-in = omega arith; count-in = omega arith; written-in = omega arith } }
+    record { core-in = lines-accepted s cs c refl .0; cycles-in = omega arith; console-in = record { some = omega arith; few = omega arith; small = omega arith; start-in = omega arith; count-in = omega arith; written-in = omega arith }; none-counted = refl }
 
 row-is : (m : List ℤ) (pc sp : ℕ) (sr : ℤ) → lentOf (startMachine m pc sp sr) ≡ lent m (replicate 256 0) (replicate 4096 0) (imageRow (startOf (pos pc) (pos sp) sr))
 unfolding rowOf
 row-is m pc sp sr = refl
 
--- The seven lines are those of the definition's run.
+-- The lines are those of the definition's run.
 pub image-runs : {n : ℕ} {t : List ℕ} {pc sp sr : ℤ} {m : List ℤ} → Image n t pc sp sr m → imageRun m (imageRow (startOf pc sp sr)) ≡ ran (run 100000 (startMachine m (natAbs pc) (natAbs sp) sr))
 unfolding imageRun
 image-runs {pc = pc} {sp} {sr} {m} i =

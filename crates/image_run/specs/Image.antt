@@ -24,7 +24,7 @@ imageRow s = startRow (replicate ROW (pos 0)) s
 unfoldable pub imageRun : List ℤ → List ℤ → Called Ran Lent
 imageRun cells row = runCall 100000 (lent cells (replicate 256 0) (replicate 4096 0) row)
 
--- The seven lines of an image: a row of zeros but for pc, sp and sr, run on these cells.
+-- The lines of an image: a row of zeros but for pc, sp and sr, run on these cells.
 unfoldable pub imageText : List ℤ → Start → List ℕ
 imageText cells s =
     let m = imageRun cells (imageRow s) in

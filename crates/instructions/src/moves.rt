@@ -74,35 +74,20 @@ pub fn rtn(cells: &[i64], s: Registers) -> Put
     requires { do ⌜ cellCount (now cells) ≤ CELLS-MOST ⌝ }
     ensures { λ q. ⌜ putRes (now (cells .entry)) q ≡ rtn (core (now (cells .entry)) s) ⌝ }
 {
-    let top = pop_cell(cells, s);
-    let t = top.s;
-    if top.ok {
-        let v = top.value;
-        let target = taken::or_address(t, memory::extract_address(v), Error::CellError);
-        return super::jumps::jump_to(target);
-    }
-    let error = top.error;
-    registers::refuse(t, error)
+    super::jumps::jump_to(taken::address_in(pop_cell(cells, s), Error::CellError))
 }
 
 // The second half of rti: sr from cell 101.
 pub fn rti_sr(cells: &[i64], s: Registers) -> Put
     ensures { λ q. ⌜ putRes (now (cells .entry)) q ≡ rtiSr (core (now (cells .entry)) s) ⌝ }
 {
-    let saved = arguments::read(cells, s, 101);
-    let t = saved.s;
-    if saved.ok {
-        let v = saved.value;
-        let given = taken::or_word(t, memory::extract_word(v), Error::CellError);
-        let mut u = given.s;
-        if given.ok {
-            u.sr = given.value;
-            return registers::accept(u);
-        }
-        let error = given.error;
-        return registers::refuse(u, error);
+    let given = taken::word_in(arguments::read(cells, s, 101), Error::CellError);
+    let mut t = given.s;
+    if given.ok {
+        t.sr = given.value;
+        return registers::accept(t);
     }
-    let error = saved.error;
+    let error = given.error;
     registers::refuse(t, error)
 }
 
@@ -111,20 +96,13 @@ pub fn rti(cells: &[i64], s: Registers) -> Put
     ensures { λ q. ⌜ putRes (now (cells .entry)) q ≡ rti (core (now (cells .entry)) s) ⌝ }
 {
     if registers::supervisor(s) {
-        let saved = arguments::read(cells, s, 100);
-        let t = saved.s;
-        if saved.ok {
-            let v = saved.value;
-            let target = taken::or_address(t, memory::extract_address(v), Error::CellError);
-            let mut u = target.s;
-            if target.ok {
-                u.pc = target.value;
-                return rti_sr(cells, u);
-            }
-            let error = target.error;
-            return registers::refuse(u, error);
+        let target = taken::address_in(arguments::read(cells, s, 100), Error::CellError);
+        let mut t = target.s;
+        if target.ok {
+            t.pc = target.value;
+            return rti_sr(cells, t);
         }
-        let error = saved.error;
+        let error = target.error;
         return registers::refuse(t, error);
     }
     registers::refuse(s, Error::PrivilegedInstruction)

@@ -13,7 +13,7 @@ use mir.Val.{SFits, toZ, ofZ}
 use mir.Facts.{toZ-ofZ}
 use borrow.Author.Tests.{ltb-true, lt-ltb, le-ltb}
 use Rattle.definition.specs.declared.Cell.{Cell}
-use Rattle.definition.specs.declared.Word.the-variants.{Is, NotWord}
+use Rattle.definition.specs.declared.Word.the-variants.{Is, Empty, NotWord}
 use Rattle.definition.specs.declared.Found.the-variants.{Here, Outside}
 use Rattle.definition.specs.Memory.{cellCount, cellAt, putCell, get, found, wordAt}
 use Rattle.definition.specs.Constants.{CELLS-MOST}
@@ -79,10 +79,10 @@ pub word-one : (t f : ℤ) → SFits w64 t → SFits w64 f → ofZ w64 t ≡ 1 �
 unfolding wordAt
 word-one t f ft ff h = ap Is (toZ-ofZ ff) ∙ sym (ap (λ (x : ℤ). wordAt x f) (sym (toZ-ofZ ft) ∙ ap (toZ w64) h))
 
-pub word-low : (t f : ℤ) → SFits w64 t → (ofZ w64 t ≡ 1 → ⊥) → ltZ (toZ w64 (ofZ w64 t)) (pos 2) ≡ true → Is (pos 0) ≡ wordAt t f
+pub word-low : (t f : ℤ) → SFits w64 t → (ofZ w64 t ≡ 1 → ⊥) → ltZ (toZ w64 (ofZ w64 t)) (pos 2) ≡ true → Empty ≡ wordAt t f
 word-low t f ft n h = go t n (rw (toZ-ofZ ft) at h)
   where
-    go : (t : ℤ) → (ofZ w64 t ≡ 1 → ⊥) → ltZ t (pos 2) ≡ true → Is (pos 0) ≡ wordAt t f
+    go : (t : ℤ) → (ofZ w64 t ≡ 1 → ⊥) → ltZ t (pos 2) ≡ true → Empty ≡ wordAt t f
     go (pos zero) n h = unfold wordAt in refl
     go (pos (suc zero)) n h = absurd (n refl)
     go (pos (suc (suc k))) n h = let b : suc (suc k) < 2 = ltb-true _ _ h in absurd (omega arith)

@@ -70,13 +70,13 @@ pub fn word_from(tag: i64, first: i64) -> Word
     if tag == 1 {
         Word::Is(first)
     } else if tag < 2 {
-        Word::Is(0)
+        Word::Empty
     } else {
         Word::NotWord
     }
 }
 
-// Cell::extract_word
+// Cell::extract_word, which tells an empty cell's word 0 from a word. A word is found by the first test.
 pub fn extract_word(v: Cell) -> Word
     ensures { λ r. ⌜ r ≡ extractWord v ⌝ }
 {
@@ -88,6 +88,7 @@ pub fn as_address(w: Word) -> Address
 {
     match w {
         Word::Is(w) => word::to_address(w),
+        Word::Empty => Address::At(0),
         Word::NotWord => Address::NotAddress,
     }
 }

@@ -11,7 +11,7 @@ use Rattle.definition.specs.Word.{isShift}
 use Rattle.definition.specs.Registers as R
 use Rattle.definition.specs.Registers.{Reg, assigned, refused}
 use Rattle.definition.specs.Arguments.{Operand}
-use Rattle.definition.specs.Exec.{Res, Exec, core, ok, err, andThen, _>>=_, return, assign}
+use Rattle.definition.specs.Exec.{Res, Exec, core, ok, err, andThen, _>>=_, return, takeWord, assign}
 use Rattle.definition.specs.Instructions.{andFlags, putResult, putShifted, cellOf, wordOf, registerWord, words}
 use Rattle.registers.specs.declared.Put.{Put}
 use Rattle.registers.specs.Meaning.{settled, result, putRes}
@@ -19,7 +19,7 @@ use Rattle.registers.proofs.Laws.{settled-is, then-ok, then-err}
 use Rattle.arguments.specs.declared.taken.WordTaken.{WordTaken}
 use Rattle.arguments.specs.declared.taken.CellTaken.{CellTaken}
 use Rattle.arguments.specs.Taken.{tookWord, tookCell, cellRes}
-use Rattle.arguments.proofs.Laws.{wordIn, in-cell-is, cell-of-is, register-word-is, word-ok, word-err}
+use Rattle.arguments.proofs.Laws.{in-cell-is, cell-of-is, register-word-is, word-ok, word-err}
 use Rattle.operations.specs.declared.Two.{Two}
 use Rattle.operations.specs.Two.{twoWords, tookTwo, twoRes}
 
@@ -81,7 +81,7 @@ module _ (l : List ℤ) (r : Reg) where
   two-is : (c : CellTaken) → Is-two l (twoWords r (cellRes l c))
   unfolding twoWords
   two-is c =
-      let t = tookWord (andThen (cellRes l c) (wordIn Extract)) in
+      let t = tookWord (andThen (cellRes l c) (λ v. takeWord v Extract)) in
       subst (λ (m : Res ℤ). Is-two l (andThen m (second r))) (in-cell-is l Extract c t refl) (two-first (t .ok) (t .value) (t .error) (t .s))
 
   module _ (x : Operand) (k : ℤ → ℤ → Registers → R.Put) where

@@ -6,16 +6,15 @@ use lib.IntN.{ℤ, pos}
 use Rattle.definition.specs.declared.Cell.{Cell}
 use Rattle.definition.specs.declared.Error.the-variants.{Extract, Reset}
 use Rattle.definition.specs.Word.{shlW, shrW}
-use Rattle.definition.specs.Memory.{extractWord}
 use Rattle.definition.specs.Registers.{Reg}
-use Rattle.definition.specs.Exec.{Core, Res, Exec, ok, err, core, andThen, _>>=_, return, orWord}
+use Rattle.definition.specs.Exec.{Core, Res, Exec, ok, err, core, andThen, _>>=_, return, takeWord}
 use Rattle.definition.specs.Instructions.{registerWord}
 use Rattle.registers.specs.Meaning.{result}
 use Rattle.operations.specs.declared.Two.{Two}
 
 -- The word of the operand's cell, once that is taken, then the register's.
 unfoldable pub twoWords : Reg → Res Cell → Res (ℤ × ℤ)
-twoWords r m = andThen (andThen m (λ v. orWord (extractWord v) Extract)) (λ v. registerWord r >>= λ w. return (v, w))
+twoWords r m = andThen (andThen m (λ v. takeWord v Extract)) (λ v. registerWord r >>= λ w. return (v, w))
 
 -- They as the code answers them, and the result again.
 abbrev pub tookTwo : Res (ℤ × ℤ) → Two

@@ -25,14 +25,15 @@ sameBy eq (x ∷ l) (y ∷ m) = eq x y && sameBy eq l m
 abbrev pub unless : Bool → Fault → Fault → Fault
 unless same f after = cond same after f
 
--- "Lines 10 to 14 [...] compare its answer": in the order refusal, its place, stop, detail, count.
+-- "Lines 10 to 14 [...] compare its answer": in the order refusal, its place, stop, detail, count, empty reads.
 unfoldable pub answerFault : Answer → Answer → Fault
 answerFault got due =
     unless (eqb (got .refusal) (due .refusal)) F.Refusal (
     unless (eqb (got .place) (due .place)) F.Place (
     unless (eqb (got .stop) (due .stop)) F.Stop (
     unless (eqb (got .detail) (due .detail)) F.Detail (
-    unless (eqb (got .count) (due .count)) F.Count F.Nothing))))
+    unless (eqb (got .count) (due .count)) F.Count (
+    unless (eqb (got .empty) (due .empty)) F.Empty F.Nothing)))))
 
 -- "Line 29 compares the two in every cell, every number of the row and every byte": in the order row, cells, queue, output record, buffer.
 unfoldable pub leftFault : Lent → Lent → List ℕ → List ℕ → Fault

@@ -18,6 +18,7 @@ pub enum Fault {
     Stop,
     Detail,
     Count,
+    Empty,
     Row,
     Cells,
     Queue,
@@ -25,13 +26,14 @@ pub enum Fault {
     Buffer,
 }
 
-// Numbers that a call does not give are 0; count is steps or drained bytes.
+// Numbers that a call does not give are 0; count is steps or drained bytes, empty the words that a run took from empty cells.
 pub struct Answer {
     pub refusal: u64,
     pub place: u64,
     pub stop: u64,
     pub detail: u64,
     pub count: u64,
+    pub empty: u64,
 }
 
 pub fn answers(got: Answer, due: Answer) -> Fault
@@ -52,6 +54,9 @@ pub fn answers(got: Answer, due: Answer) -> Fault
     }
     if got.count != due.count {
         return Fault::Count;
+    }
+    if got.empty != due.empty {
+        return Fault::Empty;
     }
     Fault::Nothing
 }

@@ -27,14 +27,17 @@ use Rattle.recorded_cases.specs.Verdict.{verdictText}
 
 -- ---- the calls
 
--- refusal, its place, stop, detail and count; those that a call does not give are 0
+-- refusal, its place, stop, detail, count and empty reads; those that a call does not give are 0
+abbrev pub runAnswer : ℕ → ℕ → ℕ → ℕ → ℕ → ℕ → Answer
+runAnswer r p s d n e = record { refusal = r; place = p; stop = s; detail = d; count = n; empty = e }
+
 abbrev pub answer : ℕ → ℕ → ℕ → ℕ → ℕ → Answer
-answer r p s d n = record { refusal = r; place = p; stop = s; detail = d; count = n }
+answer r p s d n = runAnswer r p s d n 0
 
 -- After a call with a drain buffer of n bytes: the lines "after" may come, and the answers are compared.
 abbrev pub afterCall : State → ℕ → Answer → Answer → State
 afterCall s n got wanted =
-    record { phase = 4; queue = s .queue; output = s .output; bytes = 0; buffer = n; cases = s .cases; calls = oneMore (s .calls); lines = s .lines; fault = answerFault got wanted }
+    record { phase = 4; queue = s .queue; output = s .output; bytes = 0; buffer = n; empty = 0; cases = s .cases; calls = oneMore (s .calls); lines = s .lines; fault = answerFault got wanted }
 
 -- The calls on the case's queue and output record, which are the fronts of the arrays; the ends stay as they were.
 abbrev pub ranIn : ℕ → ℕ → ℕ → Lent → Called Ran Lent
@@ -59,7 +62,7 @@ runOn s l m A.NotAddress = (withFault s F.Number, m)
 runOn s l m (A.At n) =
     let x = ranIn n (s .queue) (s .output) m in
     let r = x .answer in
-    (afterCall s 0 (answer (r .refusal) (r .place) (r .stop) (r .detail) (r .steps)) (answer 0 0 (bits (l .b)) (bits (l .c)) (bits (l .d))), x .left)
+    (afterCall s 0 (runAnswer (r .refusal) (r .place) (r .stop) (r .detail) (r .steps) (r .empty)) (runAnswer 0 0 (bits (l .b)) (bits (l .c)) (bits (l .d)) (s .empty)), x .left)
 
 abbrev pub runLine : State → Line → Lent → State × Lent
 runLine s l m = runOn s l m (addressOf (l .a))

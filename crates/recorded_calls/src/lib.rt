@@ -33,6 +33,7 @@ fn called(s: State, buffer: usize, got: Answer, due: Answer) -> State
         output: s.output,
         bytes: 0,
         buffer,
+        empty: 0,
         cases: s.cases,
         calls: one_more(s.calls),
         lines: s.lines,
@@ -49,6 +50,7 @@ fn refusal(refusal: u64, place: u64) -> Answer
         stop: 0,
         detail: 0,
         count: 0,
+        empty: 0,
     }
 }
 
@@ -104,6 +106,7 @@ fn run(
         stop: r.stop,
         detail: r.detail,
         count: r.steps,
+        empty: r.empty,
     };
     let due = Answer {
         refusal: 0,
@@ -111,6 +114,7 @@ fn run(
         stop: word::to_bits(l.b),
         detail: word::to_bits(l.c),
         count: word::to_bits(l.d),
+        empty: s.empty,
     };
     called(s, 0, got, due)
 }
@@ -157,6 +161,7 @@ fn drain(
         stop: 0,
         detail: 0,
         count: d.count,
+        empty: 0,
     };
     let due = Answer {
         refusal: word::to_bits(l.b),
@@ -164,6 +169,7 @@ fn drain(
         stop: 0,
         detail: 0,
         count: word::to_bits(l.c),
+        empty: 0,
     };
     called(s, n, got, due)
 }
@@ -182,6 +188,7 @@ fn raise(s: State, l: Line, cells: &mut [i64; 30000], row: &mut [i64; ROW]) -> S
         stop: r.stop,
         detail: r.detail,
         count: 0,
+        empty: 0,
     };
     let due = Answer {
         refusal: word::to_bits(l.b),
@@ -189,6 +196,7 @@ fn raise(s: State, l: Line, cells: &mut [i64; 30000], row: &mut [i64; ROW]) -> S
         stop: word::to_bits(l.c),
         detail: word::to_bits(l.d),
         count: 0,
+        empty: 0,
     };
     called(s, 0, got, due)
 }

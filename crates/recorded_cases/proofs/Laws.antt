@@ -6,6 +6,7 @@ use Prim.Native.Nat.{ℕ, _+_, _≤_, _<_}
 use native.Mathlib.Omega.{arith}
 use lib.Dec.{ltb, eqb}
 use lib.IntN.{pos}
+use lib.Signed.{ltZ}
 use borrow.Author.Tests.{ltb-true, ltb-false}
 use Rattle.definition.specs.Word.{bits, eqZ, addressOf}
 use Rattle.definition.specs.Calls.{Lent}
@@ -13,7 +14,7 @@ use Rattle.recorded.specs.declared.reader.Line.{Line}
 use Rattle.recorded.specs.Place.{cellPut, numberPut, bytePut}
 use Rattle.recorded_cases.specs.declared.state.State.{State}
 use Rattle.recorded_cases.specs.Room.{Fits}
-use Rattle.recorded_cases.specs.Case.{checked, withPhase, sizeOf, oneMore, firstLine, lastLine, otherLine, opened, byteLine, Both, both, inBoth, beforeLine, Due, due, afterLine, closeLine}
+use Rattle.recorded_cases.specs.Case.{checked, withPhase, sizeOf, oneMore, firstLine, lastLine, beforeRun, emptyLine, otherLine, opened, byteLine, Both, both, inBoth, beforeLine, Due, due, afterLine, closeLine}
 
 pub by-cond : {A : Type 0} (P : A → Type 0) (b : Bool) {x y : A} → (b ≡ true → P x) → (b ≡ false → P y) → P (cond b x y)
 by-cond P true t f = t refl
@@ -42,10 +43,14 @@ module _ (s : State) (l : Line) (f : Fits s) where
   unfolding lastLine
   fits-last = by-cond Fits (eqb (bits (l .a)) (s .cases)) (λ e. f) (λ e. f)
 
+  fits-empty : Fits (emptyLine s l)
+  unfolding emptyLine
+  fits-empty = fits-checked (beforeRun s (bits (l .a))) (ltZ (pos 0) (l .a)) f
+
   pub fits-other : (k : ℕ) → Fits (otherLine s k l)
   unfolding otherLine
   fits-other k =
-      by-cond Fits (eqb k 0) (λ e. fits-first) (λ e. by-cond Fits (eqb k 99) (λ e. fits-last) (λ e. by-cond Fits (eqb k 101) (λ e. f) (λ e. f)))
+      by-cond Fits (eqb k 0) (λ e. fits-first) (λ e. by-cond Fits (eqb k 99) (λ e. fits-last) (λ e. by-cond Fits (eqb k 7) (λ e. fits-empty) (λ e. by-cond Fits (eqb k 101) (λ e. f) (λ e. f))))
 
   pub fits-byte : (b : List ℕ) → Fits (byteLine s l b .0)
   unfolding byteLine

@@ -4,6 +4,7 @@ use mathlib.Core.List.{List}
 use Prim.Native.Nat.{ℕ, _+_, _%_, _^_}
 use lib.Dec.{ltb, leb, eqb}
 use lib.IntN.{ℤ, pos}
+use lib.Signed.{ltZ}
 use Rattle.definition.specs.declared.Address.{Address}
 use Rattle.definition.specs.declared.Address.the-variants as A
 use Rattle.definition.specs.Word.{bits, eqZ, addressOf}
@@ -21,7 +22,7 @@ use Rattle.recorded_cases.specs.declared.state.State.{State}
 
 abbrev pub started : State
 started =
-    record { phase = 0; queue = 0; output = 0; bytes = 0; buffer = 0; cases = 0; calls = 0; lines = 0; fault = F.Nothing }
+    record { phase = 0; queue = 0; output = 0; bytes = 0; buffer = 0; empty = 0; cases = 0; calls = 0; lines = 0; fault = F.Nothing }
 
 -- Whether something is not as the list says.
 unfoldable pub fails : Fault → Bool
@@ -36,6 +37,7 @@ fails F.Place = true
 fails F.Stop = true
 fails F.Detail = true
 fails F.Count = true
+fails F.Empty = true
 fails F.Row = true
 fails F.Cells = true
 fails F.Queue = true
@@ -44,11 +46,11 @@ fails F.Buffer = true
 
 abbrev pub withFault : State → Fault → State
 withFault s f =
-    record { phase = s .phase; queue = s .queue; output = s .output; bytes = s .bytes; buffer = s .buffer; cases = s .cases; calls = s .calls; lines = s .lines; fault = f }
+    record { phase = s .phase; queue = s .queue; output = s .output; bytes = s .bytes; buffer = s .buffer; empty = s .empty; cases = s .cases; calls = s .calls; lines = s .lines; fault = f }
 
 abbrev pub withPhase : State → ℕ → State
 withPhase s p =
-    record { phase = p; queue = s .queue; output = s .output; bytes = s .bytes; buffer = s .buffer; cases = s .cases; calls = s .calls; lines = s .lines; fault = s .fault }
+    record { phase = p; queue = s .queue; output = s .output; bytes = s .bytes; buffer = s .buffer; empty = s .empty; cases = s .cases; calls = s .calls; lines = s .lines; fault = s .fault }
 
 -- One more; counts are of 64 bits.
 abbrev pub oneMore : ℕ → ℕ
@@ -56,7 +58,7 @@ oneMore n = (n + 1) % 2 ^ 64
 
 abbrev pub nextLine : State → State
 nextLine s =
-    record { phase = s .phase; queue = s .queue; output = s .output; bytes = s .bytes; buffer = s .buffer; cases = s .cases; calls = s .calls; lines = oneMore (s .lines); fault = s .fault }
+    record { phase = s .phase; queue = s .queue; output = s .output; bytes = s .bytes; buffer = s .buffer; empty = s .empty; cases = s .cases; calls = s .calls; lines = oneMore (s .lines); fault = s .fault }
 
 abbrev pub checked : State → Bool → State
 checked s ok = cond ok s (withFault s F.Number)
@@ -72,7 +74,7 @@ textEnd r s = cond (fails (s .fault)) s (cond (isAtStart r && eqb (s .phase) 6) 
 -- ---- the order of the lines
 
 -- Phases: 0 the first line is due, 1 a case or the last line, 2 the case's lines "before", 3 the bytes to deliver, 4 the lines "after", 5 a call,
--- a case or the last line, 6 nothing.
+-- a case or the last line, 6 nothing, 7 a run.
 unfoldable pub isDue : ℕ → ℕ → Bool
 isDue p k =
     let call = eqb p 2 || eqb p 5 in
@@ -80,14 +82,15 @@ isDue p k =
     || (((eqb k 1 || eqb k 99) && (eqb p 1 || eqb p 5))
     || ((((ltb 1 k && ltb k 6)) && eqb p 2)
     || (((eqb k 6 || eqb k 11) && (call || eqb p 3))
-    || (((((eqb k 10 || eqb k 12) || eqb k 13) || eqb k 14) && call)
-    || (((ltb 19 k && ltb k 25) || eqb k 29) && eqb p 4)))))
+    || ((eqb k 10 && (call || eqb p 7))
+    || (((((eqb k 7 || eqb k 12) || eqb k 13) || eqb k 14) && call)
+    || (((ltb 19 k && ltb k 25) || eqb k 29) && eqb p 4))))))
 
 -- How many numbers a line of this kind has besides the kind.
 unfoldable pub used : ℕ → ℕ
 used k =
     cond (eqb k 29) 0 (
-    cond (eqb k 99) 1 (
+    cond (eqb k 7 || eqb k 99) 1 (
     cond (((eqb k 0 || (ltb 2 k && ltb k 7)) || eqb k 11) || (ltb 20 k && ltb k 25)) 2 (
     cond (eqb k 12 || eqb k 14) 3 4)))
 
@@ -122,9 +125,17 @@ firstLine s l = checked (withPhase s 1) (eqZ (l .a) (pos 1) && eqZ (l .b) (pos 1
 unfoldable pub lastLine : State → Line → State
 lastLine s l = cond (eqb (bits (l .a)) (s .cases)) (withPhase s 6) (withFault s F.Cases)
 
+-- "the words that the next call, a run, takes from empty cells; 0 without such a line"
+abbrev pub beforeRun : State → ℕ → State
+beforeRun s n =
+    record { phase = 7; queue = s .queue; output = s .output; bytes = s .bytes; buffer = s .buffer; empty = n; cases = s .cases; calls = s .calls; lines = s .lines; fault = s .fault }
+
+unfoldable pub emptyLine : State → Line → State
+emptyLine s l = checked (beforeRun s (bits (l .a))) (ltZ (pos 0) (l .a))
+
 unfoldable pub otherLine : State → ℕ → Line → State
 otherLine s k l =
-    cond (eqb k 0) (firstLine s l) (cond (eqb k 99) (lastLine s l) (cond (eqb k 101) (withFault s F.Number) (withFault s F.Order)))
+    cond (eqb k 0) (firstLine s l) (cond (eqb k 99) (lastLine s l) (cond (eqb k 7) (emptyLine s l) (cond (eqb k 101) (withFault s F.Number) (withFault s F.Order))))
 
 -- "opens a case": "number, from 1", "queue's length", "output record's length", "1 for the runner"
 unfoldable pub opened : State → Line → State
@@ -134,13 +145,13 @@ opened s l =
     (cond (ltb 1 (sizeOf (l .d))) (withFault s F.Number) (
     cond (ltb 256 (sizeOf (l .b))) (withFault s F.Number) (
     cond (ltb 4096 (sizeOf (l .c))) (withFault s F.Number) (
-    record { phase = 2; queue = sizeOf (l .b); output = sizeOf (l .c); bytes = 0; buffer = 0; cases = oneMore (s .cases); calls = s .calls; lines = s .lines; fault = F.Nothing }))))
+    record { phase = 2; queue = sizeOf (l .b); output = sizeOf (l .c); bytes = 0; buffer = 0; empty = 0; cases = oneMore (s .cases); calls = s .calls; lines = s .lines; fault = F.Nothing }))))
     (withFault s F.Cases)
 
 -- "a byte for the next line 11, in order"
 abbrev pub moreBytes : State → State
 moreBytes s =
-    record { phase = 3; queue = s .queue; output = s .output; bytes = s .bytes + 1; buffer = s .buffer; cases = s .cases; calls = s .calls; lines = s .lines; fault = s .fault }
+    record { phase = 3; queue = s .queue; output = s .output; bytes = s .bytes + 1; buffer = s .buffer; empty = s .empty; cases = s .cases; calls = s .calls; lines = s .lines; fault = s .fault }
 
 unfoldable pub byteLine : State → Line → List ℕ → State × List ℕ
 byteLine s l bytes =

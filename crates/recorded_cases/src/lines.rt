@@ -4,6 +4,7 @@ use crate::state::CALL;
 use crate::state::CASE;
 use crate::state::DELIVERY;
 use crate::state::NONE;
+use crate::state::RUN;
 use crate::state::State;
 use crate::state::checked;
 use crate::state::is_due;
@@ -23,7 +24,7 @@ ghost use Prim.Native.Nat.{_≤_};
 ghost use lib.ListN.{length};
 ghost use Rattle.definition.specs.Calls.{lent};
 ghost use Rattle.recorded_cases.specs.Room.{Fits};
-ghost use Rattle.recorded_cases.specs.Case.{sizeOf, othersAre0, kindOf, firstLine, lastLine, otherLine, opened as Case·opened, byteLine, both, cellsBoth, numbersBoth, bytesBoth, beforeLine, due, afterLine, closeLine};
+ghost use Rattle.recorded_cases.specs.Case.{sizeOf, othersAre0, kindOf, firstLine, lastLine, emptyLine, otherLine, opened as Case·opened, byteLine, both, cellsBoth, numbersBoth, bytesBoth, beforeLine, due, afterLine, closeLine};
 
 // No kind of line: one that is not due, and one with a number too many.
 pub const UNDUE: u32 = 100;
@@ -83,7 +84,16 @@ fn last(s: State, l: Line) -> State
     with_fault(s, Fault::Cases)
 }
 
-// The first and the last line, and what is no line that may come.
+// "the words that the next call, a run, takes from empty cells; 0 without such a line"
+fn empty(s: State, l: Line) -> State
+    ensures { λ r. ⌜ r ≡ emptyLine s l ⌝ }
+{
+    let mut next = with_phase(s, RUN);
+    next.empty = word::to_bits(l.a);
+    checked(next, word::lt(0, l.a))
+}
+
+// The first and the last line, the one before a run, and what is no line that may come.
 pub fn other(s: State, kind: u32, l: Line) -> State
     ensures { λ r. ⌜ r ≡ otherLine s kind l ⌝ }
 {
@@ -92,6 +102,9 @@ pub fn other(s: State, kind: u32, l: Line) -> State
     }
     if kind == 99 {
         return last(s, l);
+    }
+    if kind == 7 {
+        return empty(s, l);
     }
     if kind == OVERFULL {
         return with_fault(s, Fault::Number);
@@ -122,6 +135,7 @@ pub fn opened(s: State, l: Line) -> State
             output: o,
             bytes: 0,
             buffer: 0,
+            empty: 0,
             cases: case,
             calls: s.calls,
             lines: s.lines,

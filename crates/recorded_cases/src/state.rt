@@ -20,6 +20,8 @@ pub const CALL: u32 = 5;
 
 pub const NONE: u32 = 6;
 
+pub const RUN: u32 = 7;
+
 pub struct State {
     pub phase: u32,
     // The case's queue and output record, the bytes to deliver and the drain buffer: how long each is.
@@ -27,6 +29,8 @@ pub struct State {
     pub output: usize,
     pub bytes: usize,
     pub buffer: usize,
+    // The words that the next run takes from empty cells.
+    pub empty: u64,
     pub cases: u64,
     pub calls: u64,
     pub lines: u64,
@@ -42,6 +46,7 @@ pub fn at_start() -> State
         output: 0,
         bytes: 0,
         buffer: 0,
+        empty: 0,
         cases: 0,
         calls: 0,
         lines: 0,
@@ -64,6 +69,7 @@ pub fn fails(f: Fault) -> bool
         Fault::Stop => true,
         Fault::Detail => true,
         Fault::Count => true,
+        Fault::Empty => true,
         Fault::Row => true,
         Fault::Cells => true,
         Fault::Queue => true,
@@ -81,6 +87,7 @@ pub fn with_fault(s: State, f: Fault) -> State
         output: s.output,
         bytes: s.bytes,
         buffer: s.buffer,
+        empty: s.empty,
         cases: s.cases,
         calls: s.calls,
         lines: s.lines,
@@ -121,8 +128,9 @@ pub fn is_due(phase: u32, kind: u32) -> bool
         | ((((kind == 1) | (kind == 99)) & ((phase == CASE) | (phase == CALL)))
             | (((1 < kind) & (kind < 6) & (phase == BEFORE))
                 | ((((kind == 6) | (kind == 11)) & (call | (phase == DELIVERY)))
-                    | ((((kind == 10) | (kind == 12) | (kind == 13) | (kind == 14)) & call)
-                        | ((((19 < kind) & (kind < 25)) | (kind == 29)) & (phase == AFTER))))))
+                    | (((kind == 10) & (call | (phase == RUN)))
+                        | ((((kind == 7) | (kind == 12) | (kind == 13) | (kind == 14)) & call)
+                            | ((((19 < kind) & (kind < 25)) | (kind == 29)) & (phase == AFTER)))))))
 }
 
 // How many numbers a line of this kind has besides the kind; the others are 0.
@@ -132,7 +140,7 @@ pub fn used(kind: u32) -> u32
     if kind == 29 {
         return 0;
     }
-    if kind == 99 {
+    if (kind == 7) | (kind == 99) {
         return 1;
     }
     if (kind == 0) | ((2 < kind) & (kind < 7)) | (kind == 11) | ((20 < kind) & (kind < 25)) {

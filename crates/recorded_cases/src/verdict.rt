@@ -33,6 +33,7 @@ fn put_fault(out: &mut [u8], at: usize, f: Fault) -> usize
         Fault::Stop => put(out, at, b"the stop differs\n"),
         Fault::Detail => put(out, at, b"the detail differs\n"),
         Fault::Count => put(out, at, b"the count of steps or bytes differs\n"),
+        Fault::Empty => put(out, at, b"the count of empty reads differs\n"),
         Fault::Row => put(out, at, b"the row differs\n"),
         Fault::Cells => put(out, at, b"the cells differ\n"),
         Fault::Queue => put(out, at, b"the queue differs\n"),

@@ -6,7 +6,8 @@ use definition::Registers;
 use definition::Word;
 ghost use mathlib.Core.Path.{_≡_};
 ghost use Prim.Native.Nat.{_<_};
-ghost use Rattle.definition.specs.Registers.{regAt, getReg, putReg, putPc, putSp, putSr, putFlag, supervisor, interruptEnable, assigned, refused};
+ghost use Rattle.definition.specs.Memory.{asAddress};
+ghost use Rattle.definition.specs.Registers.{regAt, getReg, putReg, putPc, putSp, putSr, putFlag, supervisor, interruptEnable, counted, assigned, refused};
 ghost use Rattle.definition.specs.Exec.{below};
 ghost use Rattle.registers.specs.Meaning.{settled};
 
@@ -80,12 +81,27 @@ pub fn get_reg(s: Registers, r: u32) -> Cell
     }
 }
 
-pub fn put_pc(s: Registers, n: Address) -> Put
-    ensures { λ q. ⌜ q ≡ settled s (putPc n s) ⌝ }
+// The registers once the word was taken: an empty cell's is counted, here alone.
+pub fn counted(s: Registers, w: Word) -> Registers
+    ensures { λ r. ⌜ r ≡ counted w s ⌝ }
 {
-    match n {
-        Address::At(n) => {
+    match w {
+        Word::Empty => {
             let mut t = s;
+            t.empties = word::total(s.empties, 1);
+            t
+        }
+        Word::Is(_) => s,
+        Word::NotWord => s,
+    }
+}
+
+fn put_pc(s: Registers, w: Word) -> Put
+    ensures { λ q. ⌜ q ≡ settled s (putPc (asAddress w) (counted w s)) ⌝ }
+{
+    match memory::as_address(w) {
+        Address::At(n) => {
+            let mut t = counted(s, w);
             t.pc = n;
             accept(t)
         }
@@ -93,12 +109,12 @@ pub fn put_pc(s: Registers, n: Address) -> Put
     }
 }
 
-pub fn put_sp(s: Registers, n: Address) -> Put
-    ensures { λ q. ⌜ q ≡ settled s (putSp n s) ⌝ }
+fn put_sp(s: Registers, w: Word) -> Put
+    ensures { λ q. ⌜ q ≡ settled s (putSp (asAddress w) (counted w s)) ⌝ }
 {
-    match n {
+    match memory::as_address(w) {
         Address::At(n) => {
-            let mut t = s;
+            let mut t = counted(s, w);
             t.sp = n;
             accept(t)
         }
@@ -107,14 +123,18 @@ pub fn put_sp(s: Registers, n: Address) -> Put
 }
 
 // "Writing sr with S clear raises code 3, whatever the value."
-pub fn put_sr(s: Registers, w: Word) -> Put
-    ensures { λ q. ⌜ q ≡ settled s (putSr (supervisor s) w s) ⌝ }
+fn put_sr(s: Registers, w: Word) -> Put
+    ensures { λ q. ⌜ q ≡ settled s (putSr (supervisor s) w (counted w s)) ⌝ }
 {
     if supervisor(s) {
+        let mut t = counted(s, w);
         match w {
-            Word::Is(w) => {
-                let mut t = s;
-                t.sr = w;
+            Word::Is(n) => {
+                t.sr = n;
+                accept(t)
+            }
+            Word::Empty => {
+                t.sr = 0;
                 accept(t)
             }
             Word::NotWord => refuse(s, Error::InvalidSr),
@@ -134,8 +154,8 @@ pub fn put_reg(s: Registers, r: u32, v: Cell) -> Put
             t.b = v;
             accept(t)
         }
-        2 => put_pc(s, memory::extract_address(v)),
-        3 => put_sp(s, memory::extract_address(v)),
+        2 => put_pc(s, memory::extract_word(v)),
+        3 => put_sp(s, memory::extract_word(v)),
         4 => put_sr(s, memory::extract_word(v)),
         _ => {
             let mut t = s;

@@ -11,7 +11,7 @@ use Rattle.printing.proofs.Laws.{drop-end, decimal-short, numeral-short}
 use Rattle.definition.specs.declared.Ran.{Ran}
 use Rattle.definition.specs.Constants.{ROW-A, ROW-B, ROW-PC, ROW-SP, ROW-SR, ROW-CYCLES, ROW-WRITTEN}
 use Rattle.definition.specs.Calls.{at}
-use Rattle.report.specs.Text.{field, fields, line, numbersFrom, answerText, registersText, cellsText, runText, refusalText, stopName, stepsName}
+use Rattle.report.specs.Text.{field, fields, line, numbersFrom, answerText, registersText, cellsText, refusalText, stopName, stepsName, emptyName}
 
 -- ---- a text grows
 
@@ -35,14 +35,18 @@ pub three-of : (row : List ℤ) (i : ℕ) → suc (suc i) < length row → take 
 three-of row i h =
     rw (drop-cons row i (pos 0) (omega arith), drop-cons row (suc i) (pos 0) (omega arith), drop-cons row (suc (suc i)) (pos 0) h)
 
--- the pieces of the first two lines, in the order in which they are put
-regroup : (a b c d e f : List ℕ) → (a ++ ((b ++ (c ++ [])) ++ d)) ++ (e ++ ((f ++ []) ++ d)) ≡ a ++ (b ++ (c ++ (d ++ (e ++ (f ++ d)))))
-regroup a b c d e f = simp (append-assoc, append-nil)
+-- the pieces of a line of one count, and of the first two lines, in the order in which they are put
+pub count-pieces : (name : List ℕ) (n : ℕ) → line name (pos n ∷ []) ≡ name ++ (field (pos n) ++ (10 ∷ []))
+unfolding line fields
+count-pieces name n = ap (λ (t : List ℕ). name ++ (t ++ (10 ∷ []))) (append-nil (field (pos n)))
 
-pub answer-pieces : (ran : Ran) → answerText ran ≡ stopName ++ (field (pos (ran .stop)) ++ (field (pos (ran .detail)) ++ ((10 ∷ []) ++ (stepsName ++ (field (pos (ran .steps)) ++ (10 ∷ []))))))
+regroup : (a b c d e : List ℕ) → (a ++ ((b ++ (c ++ [])) ++ d)) ++ e ≡ a ++ (b ++ (c ++ (d ++ e)))
+regroup a b c d e = simp (append-assoc, append-nil)
+
+pub answer-pieces : (ran : Ran) → answerText ran ≡ stopName ++ (field (pos (ran .stop)) ++ (field (pos (ran .detail)) ++ ((10 ∷ []) ++ line stepsName (pos (ran .steps) ∷ []))))
 unfolding answerText line fields
 answer-pieces ran =
-    regroup stopName (field (pos (ran .stop))) (field (pos (ran .detail))) (10 ∷ []) stepsName (field (pos (ran .steps)))
+    regroup stopName (field (pos (ran .stop))) (field (pos (ran .detail))) (10 ∷ []) (line stepsName (pos (ran .steps) ∷ []))
 
 -- ---- 512 bytes hold every text
 
@@ -54,10 +58,10 @@ fields-short (v ∷ vs) =
     let b = fields-short vs in
     simp length-append (omega arith)
 
--- No text of a run is cut.
-pub run-fits : (ran : Ran) (row : List ℤ) → length (runText ran row) ≤ 512
-unfolding runText answerText registersText cellsText line
-run-fits ran row =
+-- No text of a run is cut: its first seven lines, and the last, whatever its number.
+pub seven-fit : (ran : Ran) (row : List ℤ) → length (answerText ran) + length (registersText row) + length (cellsText row) ≤ 480
+unfolding answerText registersText cellsText line
+seven-fit ran row =
     let a = fields-short (pos (ran .stop) ∷ pos (ran .detail) ∷ []) in
     let b = fields-short (pos (ran .steps) ∷ []) in
     let d = fields-short (at ROW-CYCLES row ∷ []) in
@@ -66,6 +70,10 @@ run-fits ran row =
     let g = fields-short (numbersFrom ROW-B row) in
     let h = fields-short (at ROW-WRITTEN row ∷ []) in
     simp length-append (omega arith)
+
+pub last-fits : (n k m : ℕ) → k ≤ 480 → m ≡ 512 → k + length (line emptyName (pos n ∷ [])) ≤ m
+unfolding line
+last-fits n k m h e = let a = fields-short (pos n ∷ []) in simp length-append (omega arith)
 
 pub refusal-fits : (n : ℕ) → length (refusalText n) ≤ 512
 unfolding refusalText

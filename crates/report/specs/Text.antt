@@ -19,7 +19,7 @@ fields (v ∷ vs) = field v ++ fields vs
 unfoldable pub line : List ℕ → List ℤ → List ℕ
 line name vs = name ++ (fields vs ++ (10 ∷ []))
 
--- The lines' names: `stop`, `steps`, `cycles`, `regs`, `a`, `b`, `out`, and what a refusal begins with, `refused,12,`.
+-- The lines' names: `stop`, `steps`, `cycles`, `regs`, `a`, `b`, `out`, `empty`, and what a refusal begins with, `refused,12,`.
 abbrev pub stopName : List ℕ
 stopName = 115 ∷ 116 ∷ 111 ∷ 112 ∷ []
 
@@ -40,6 +40,9 @@ bName = 98 ∷ []
 
 abbrev pub outName : List ℕ
 outName = 111 ∷ 117 ∷ 116 ∷ []
+
+abbrev pub emptyName : List ℕ
+emptyName = 101 ∷ 109 ∷ 112 ∷ 116 ∷ 121 ∷ []
 
 abbrev pub refusedName : List ℕ
 refusedName = 114 ∷ 101 ∷ 102 ∷ 117 ∷ 115 ∷ 101 ∷ 100 ∷ 44 ∷ 49 ∷ 50 ∷ 44 ∷ []
@@ -63,9 +66,13 @@ unfoldable pub cellsText : List ℤ → List ℕ
 cellsText row =
     line aName (numbersFrom ROW-A row) ++ (line bName (numbersFrom ROW-B row) ++ line outName (at ROW-WRITTEN row ∷ []))
 
--- The seven lines, in document 01's order, of what run answered and the row that it left.
+-- "The runner adds a last line `empty,count`."
+unfoldable pub emptyText : Ran → List ℕ
+emptyText ran = line emptyName (pos (ran .empty) ∷ [])
+
+-- The eight lines, seven of them in document 01's order, of what run answered and the row that it left.
 unfoldable pub runText : Ran → List ℤ → List ℕ
-runText ran row = answerText ran ++ (registersText row ++ cellsText row)
+runText ran row = answerText ran ++ (registersText row ++ (cellsText row ++ emptyText ran))
 
 -- "Any refusal prints only `refused,12,line`."
 unfoldable pub refusalText : ℕ → List ℕ

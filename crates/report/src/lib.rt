@@ -1,4 +1,4 @@
-// What the runner prints, as text: the seven lines of a run, or a refusal. Each function puts a text behind the first `at` bytes of a buffer
+// What the runner prints, as text: the eight lines of a run, or a refusal. Each function puts a text behind the first `at` bytes of a buffer
 // and answers where the text ends. 512 bytes hold every text.
 use definition::Ran;
 use definition::places;
@@ -7,13 +7,13 @@ use printing::put_byte;
 use printing::put_decimal;
 use printing::put_numeral;
 ghost use mathlib.Core.Path.{_≡_};
-ghost use mathlib.Core.List.{_++_};
+ghost use mathlib.Core.List.{[], _∷_, _++_};
 ghost use Prim.Native.Nat.{_+_, _≤_};
 ghost use lib.IntN.{pos};
 ghost use lib.ListN.{length, take};
 ghost use Rattle.definition.specs.Constants.{ROW};
 ghost use Rattle.io.specs.Counts.{Counts};
-ghost use Rattle.report.specs.Text.{field, line, answerText, registersText, cellsText, runText, refusalText};
+ghost use Rattle.report.specs.Text.{field, line, answerText, registersText, cellsText, emptyText, runText, refusalText};
 
 // A comma and a number that is not negative.
 pub fn put_count(out: &mut [u8], at: usize, n: u64) -> usize
@@ -51,6 +51,17 @@ pub fn put_line(out: &mut [u8], at: usize, name: &[u8], fields: &[i64]) -> usize
     put_byte(out, k, 10)
 }
 
+// A name, a number that is not negative and a line end.
+pub fn put_count_line(out: &mut [u8], at: usize, name: &[u8], n: u64) -> usize
+    requires { ⌜ at + length (line (now name) (pos n ∷ [])) ≤ length (now out) ⌝ }
+    ensures { λ r. ⌜ take r (now (out .exit)) ≡ take at (now (out .entry)) ++ line (now (name .entry)) (pos n ∷ []) ⌝ }
+    ensures { λ r. ⌜ r ≡ at + length (line (now (name .entry)) (pos n ∷ [])) ⌝ }
+{
+    let i = put(out, at, name);
+    let j = put_count(out, i, n);
+    put_byte(out, j, 10)
+}
+
 // "stop and detail; steps"
 pub fn put_answer(out: &mut [u8], ran: Ran) -> usize
     requires { ⌜ length (answerText ran) ≤ length (now out) ⌝ }
@@ -61,9 +72,7 @@ pub fn put_answer(out: &mut [u8], ran: Ran) -> usize
     let i = put_count(out, i, ran.stop);
     let i = put_count(out, i, ran.detail);
     let i = put_byte(out, i, 10);
-    let i = put(out, i, b"steps");
-    let i = put_count(out, i, ran.steps);
-    put_byte(out, i, 10)
+    put_count_line(out, i, b"steps", ran.steps)
 }
 
 // "cycles; pc, sp, sr"
@@ -89,7 +98,7 @@ pub fn put_cells(out: &mut [u8], at: usize, row: &[i64]) -> usize
     put_line(out, i, b"out", &row[places::WRITTEN..places::ROW])
 }
 
-// The seven lines.
+// The eight lines.
 pub fn put_run(out: &mut [u8], ran: Ran, row: &[i64]) -> usize
     requires { ⌜ (length (now row) ≡ ROW) × (length (now out) ≡ 512) ⌝ }
     ensures { λ r. ⌜ take r (now (out .exit)) ≡ runText ran (now (row .entry)) ⌝ }
@@ -97,7 +106,8 @@ pub fn put_run(out: &mut [u8], ran: Ran, row: &[i64]) -> usize
 {
     let i = put_answer(out, ran);
     let j = put_registers(out, i, row);
-    put_cells(out, j, row)
+    let k = put_cells(out, j, row);
+    put_count_line(out, k, b"empty", ran.empty)
 }
 
 // "Any refusal prints only `refused,12,line`."

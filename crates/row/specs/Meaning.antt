@@ -8,9 +8,10 @@ use Rattle.definition.specs.Io.{marked}
 use Rattle.definition.specs.Calls.{at, cellOfRow, numberOfRow, markOfRow}
 use Rattle.console.specs.declared.ConsoleState.{ConsoleState}
 
+-- The row has no place for a count of empty reads: between steps it is 0.
 abbrev pub registersOf : List ℤ → Registers
 registersOf row =
-    record { a = cellOfRow ROW-A row; b = cellOfRow ROW-B row; pc = numberOfRow ROW-PC row; sp = numberOfRow ROW-SP row; sr = at ROW-SR row }
+    record { a = cellOfRow ROW-A row; b = cellOfRow ROW-B row; pc = numberOfRow ROW-PC row; sp = numberOfRow ROW-SP row; sr = at ROW-SR row; empties = 0 }
 
 abbrev pub marksOf : List ℤ → Marks
 marksOf row = marked (markOfRow ROW-ENABLE row) (markOfRow ROW-FLAG row) (markOfRow ROW-PENDING row)

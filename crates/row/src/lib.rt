@@ -57,6 +57,7 @@ pub fn registers(row: &[i64]) -> Registers
         pc: number_at(row, places::PC) as u32,
         sp: number_at(row, places::SP) as u32,
         sr,
+        empties: 0,
     }
 }
 

@@ -12,7 +12,7 @@ use Rattle.definition.specs.declared.Error.the-variants.{InvalidMemoryAccess, C
 use Rattle.definition.specs.Constants.{CELLS-MOST}
 use Rattle.definition.specs.Memory.{empty, cellCount}
 use Rattle.definition.specs.Registers.{Reg, regAt, putReg, refused, with-sp}
-use Rattle.definition.specs.Arguments.{operand, resolve}
+use Rattle.definition.specs.Arguments.{operand, resolve, resolved}
 use Rattle.definition.specs.Exec.{Res, Exec, core, ok, err, andThen, branch, orAddress, orPut, write, push, below}
 use Rattle.definition.specs.Instructions.{placeOf, setRegister, swapBack}
 use Rattle.memory.specs.Overlay.{overlay}
@@ -91,7 +91,7 @@ module _ (l : List ℤ) (s : Registers) where
     back-reg h = ap (λ (m : ℕ). swapBack (operand m (x .reg) (x .number)) v (core l s)) (sym h)
 
     back-by : (m : ℕ) → (m ≡ 2 → ⊥) → andThen (placeOf (operand m (x .reg) (x .number)) (core l s)) (λ n. write n v) ≡ swapBack (operand m (x .reg) (x .number)) v (core l s)
-    unfolding operand swapBack andThen orAddress resolve
+    unfolding operand swapBack andThen orAddress resolve resolved
     back-by zero h = refl
     back-by (suc zero) h = refl
     back-by (suc (suc zero)) h = absurd (h refl)

@@ -10,6 +10,7 @@ ghost use lib.Dec.{ltb};
 ghost use mir.Syntax.{w64};
 ghost use mir.Val.{toZ};
 ghost use Rattle.definition.specs.Word.{bits, wrapped, eqZ, addressOf, quotient, isShift, shlW, shrW, andW, orW, xorW, notW, bit, putBit, lowByte};
+ghost use Rattle.definition.specs.Total.{total};
 
 // The word's bits: two's complement.
 pub fn to_bits(x: i64) -> u64
@@ -78,6 +79,14 @@ pub fn wrapping_mul(x: u64, y: u64) -> u64
     let yl = y & 0xffff_ffff;
     let mid = std::num::wrapping_add_u64(xh * yl, xl * yh);
     std::num::wrapping_add_u64(xl * yl, mid << 32)
+}
+
+// "stops at its largest number": the total of empty reads.
+pub fn total(t: u64, u: u64) -> u64
+    ensures { λ r. ⌜ r ≡ total t u ⌝ }
+{
+    let most = 0xffff_ffff_ffff_ffff;
+    if t <= most - u { t + u } else { most }
 }
 
 // The number without its sign.

@@ -50,14 +50,14 @@ module _ (l : List ℤ) (q o : List ℕ) (row : List ℤ) (h : passes (runCheck 
     pub left-accepted : AcceptedMachine (machineAt l' q o' (e .m))
     left-accepted = subst (λ (r : Run). AcceptedMachine (r .left)) (sym f) (run-ends b (machineAt l q o (rowState row)) run-accepted .left-in)
 
-    pub run-answer : (row' : List ℤ) → row' ≡ rowOf (machine (core [] (e .m .s)) (e .m .cycles) (consoleOf (e .m .k) [] [])) → called (record { refusal = 0; place = 0; stop = e .stop; detail = e .detail; steps = e .steps }) (lent l' q o' row') ≡ runCall b (lent l q o row)
+    pub run-answer : (row' : List ℤ) → row' ≡ rowOf (machine (core [] (e .m .s)) (e .m .cycles) (consoleOf (e .m .k) [] [])) → called (record { refusal = 0; place = 0; stop = e .stop; detail = e .detail; steps = e .steps; empty = e .empty }) (lent l' q o' row') ≡ runCall b (lent l q o row)
     unfolding ran
     run-answer row' g =
-        ap (λ (x : List ℤ). called (record { refusal = 0; place = 0; stop = e .stop; detail = e .detail; steps = e .steps }) (lent l' q o' x)) (g ∙ row-at l' q o' (e .m))
+        ap (λ (x : List ℤ). called (record { refusal = 0; place = 0; stop = e .stop; detail = e .detail; steps = e .steps; empty = e .empty }) (lent l' q o' x)) (g ∙ row-at l' q o' (e .m))
         ∙ ap ran (f ∙ ap (M.run b) (state-is l q o row))
         ∙ sym (call-is b (lent l q o row) h)
 
-pub run-refused : (b : ℕ) (l : Lent) → passes (runCheck l) ≡ false → called (record { refusal = runCheck l .refusal; place = runCheck l .place; stop = 0; detail = 0; steps = 0 }) l ≡ runCall b l
+pub run-refused : (b : ℕ) (l : Lent) → passes (runCheck l) ≡ false → called (record { refusal = runCheck l .refusal; place = runCheck l .place; stop = 0; detail = 0; steps = 0; empty = 0 }) l ≡ runCall b l
 unfolding runCall runRefused
 run-refused b l h = sym (ap (λ (t : Bool). cond t (ran (M.run b (lentMachine l))) (runRefused (runCheck l) l)) h)
 

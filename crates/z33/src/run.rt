@@ -4,8 +4,8 @@ ghost use mathlib.Core.Path.{_≡_};
 ghost use Rattle.definition.specs.Calls.{called, lent, runCall};
 
 // The answer of a run that was taken.
-fn ran(stop: u32, detail: u32, steps: u32) -> Ran
-    ensures { λ r. ⌜ r ≡ record { refusal = 0; place = 0; stop = stop; detail = detail; steps = steps } ⌝ }
+fn ran(stop: u32, detail: u32, steps: u32, empty: u64) -> Ran
+    ensures { λ r. ⌜ r ≡ record { refusal = 0; place = 0; stop = stop; detail = detail; steps = steps; empty = empty } ⌝ }
 {
     Ran {
         refusal: 0,
@@ -13,6 +13,7 @@ fn ran(stop: u32, detail: u32, steps: u32) -> Ran
         stop: stop as u64,
         detail: detail as u64,
         steps: steps as u64,
+        empty,
     }
 }
 
@@ -35,7 +36,7 @@ pub extern "C" fn z33_run(
         let s = after.s;
         let k = after.k;
         row::write_row(row, s, after.cycles, k);
-        return ran(e.stop, e.detail, e.steps);
+        return ran(e.stop, e.detail, e.steps, e.empty);
     }
     Ran {
         refusal: d.refusal,
@@ -43,5 +44,6 @@ pub extern "C" fn z33_run(
         stop: 0,
         detail: 0,
         steps: 0,
+        empty: 0,
     }
 }

@@ -4,7 +4,7 @@ use layout::refusal::NONE;
 
 use crate::guarded::Guarded;
 use crate::model;
-use crate::trial::{Answer, Call, Lent, Trial};
+use crate::trial::{Answer, Call, Lent, REST, Trial};
 
 #[derive(Default)]
 pub struct Asked {
@@ -84,30 +84,30 @@ impl Asked {
 
 impl From<z33::Done> for Answer {
     fn from(z33::Done { refusal, place }: z33::Done) -> Self {
-        Self { refusal, place, rest: [0; 3] }
+        Self { refusal, place, rest: [0; REST] }
     }
 }
 
 impl From<z33::Ran> for Answer {
-    fn from(z33::Ran { refusal, place, stop, detail, steps }: z33::Ran) -> Self {
-        Self { refusal, place, rest: [stop as i64, detail as i64, steps as i64] }
+    fn from(z33::Ran { refusal, place, stop, detail, steps, empty }: z33::Ran) -> Self {
+        Self { refusal, place, rest: [stop, detail, steps, empty].map(|number| number as i64) }
     }
 }
 
 impl From<z33::Drained> for Answer {
     fn from(z33::Drained { refusal, place, count }: z33::Drained) -> Self {
-        Self { refusal, place, rest: [count as i64, 0, 0] }
+        Self { refusal, place, rest: [count as i64, 0, 0, 0] }
     }
 }
 
 impl From<z33::Cell> for Answer {
     fn from(z33::Cell { refusal, place, tag, first, second }: z33::Cell) -> Self {
-        Self { refusal, place, rest: [tag, first, second] }
+        Self { refusal, place, rest: [tag, first, second, 0] }
     }
 }
 
 impl From<z33::Raised> for Answer {
     fn from(z33::Raised { refusal, place, stop, detail }: z33::Raised) -> Self {
-        Self { refusal, place, rest: [stop as i64, detail as i64, 0] }
+        Self { refusal, place, rest: [stop as i64, detail as i64, 0, 0] }
     }
 }

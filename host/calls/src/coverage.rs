@@ -8,7 +8,7 @@ use layout::row::{RANGED, from_1};
 use layout::stop;
 
 use crate::faults::together;
-use crate::trial::{Answer, Buffer, CALLS, Call, Trial};
+use crate::trial::{Answer, Buffer, CALLS, Call, REST, Trial};
 
 type Refusal = (u64, u64);
 
@@ -18,6 +18,8 @@ pub struct Coverage {
     refused: BTreeMap<(Call, Refusal), u64>,
     /// Done, by the stop where there is one.
     done: BTreeMap<(Call, u64), u64>,
+    /// The stops of runs that took words from empty cells.
+    took_empty: BTreeSet<u64>,
     pairs: BTreeSet<(Call, Refusal, Refusal)>,
     /// An empty buffer, null or not.
     empty: BTreeSet<(Call, Buffer, bool)>,
@@ -32,6 +34,9 @@ impl Coverage {
         } else {
             let stop = if matches!(call, Call::Run | Call::Raise) { answer.rest[0] as u64 } else { 0 };
             *self.done.entry((call, stop)).or_default() += 1;
+            if call == Call::Run && answer.rest[REST - 1] > 0 {
+                self.took_empty.insert(stop);
+            }
         }
         for buffer in call.lends() {
             if trial.length(*buffer) == 0 {
@@ -72,6 +77,10 @@ impl Coverage {
                     need(3, there, format!("{call:?} with {buffer:?} empty, null {null}"));
                 }
             }
+        }
+        for stop in all_stops(Call::Run) {
+            let there = self.took_empty.contains(&stop);
+            need(2, there, format!("run done with words from empty cells, stop {stop}"));
         }
         if !missing.is_empty() {
             return Err(format!("{} not reached: {}", missing.len(), missing.join("; ")));

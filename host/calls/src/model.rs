@@ -1,4 +1,4 @@
-//! The eight calls in plain Rust, written from document 01: what each answers and leaves for anything lent.
+//! The eight calls in plain Rust, written from documents 01 and 02: what each answers and leaves for anything lent.
 //! The tests see what is lent and cannot change it, so a refusal changes nothing. What they accept, run, deliver, drain,
 //! set register and raise, `plain` does.
 
@@ -6,7 +6,7 @@ use layout::limit::{OUTPUT_MOST, QUEUE_MOST};
 use layout::{Row, at, cell, refusal};
 
 use crate::refusals::{self as test, Tested};
-use crate::trial::{Answer, Buffer, Call, Lent, Trial};
+use crate::trial::{Answer, Buffer, Call, Lent, REST, Trial};
 
 /// The answer; `lent` is what the trial lends, and becomes what the call leaves.
 pub fn answer(trial: &Trial, lent: &mut Lent) -> Answer {
@@ -71,27 +71,30 @@ fn row(call: Call, lent: &Lent) -> Tested {
 }
 
 /// What follows refusal and place in the answer.
-fn performed(trial: &Trial, lent: &mut Lent) -> [i64; 3] {
+fn performed(trial: &Trial, lent: &mut Lent) -> [i64; REST] {
     let Lent { cells, queue, output, row, bytes, image } = lent;
     let number = trial.number;
     match trial.call {
         Call::Fresh => fresh(cells, row),
         Call::Run => {
             let ran = plain::run(cells, queue, output, tested_row(row), number as u32);
-            [ran.stop, ran.detail, ran.steps].map(|number| number as i64)
+            [ran.stop, ran.detail, ran.steps, ran.empty].map(|number| number as i64)
         }
         Call::Deliver => done(plain::deliver(queue, tested_row(row), bytes) == refusal::NONE),
         Call::Drain => {
             let (refused, count) = plain::drain(output, tested_row(row), bytes);
             done(refused == refusal::NONE);
-            [count as i64, 0, 0]
+            [count as i64, 0, 0, 0]
         }
-        Call::ReadCell => cell::get(cells, number as usize),
+        Call::ReadCell => {
+            let [tag, first, second] = cell::get(cells, number as usize);
+            [tag, first, second, 0]
+        }
         Call::Load => load(cells, image, number as usize),
         Call::SetRegister => done(plain::set_register(tested_row(row), number, trial.word)),
         Call::Raise => {
             let raised = plain::raise(cells, tested_row(row), number).expect(TESTED);
-            [raised.stop as i64, raised.detail as i64, 0]
+            [raised.stop as i64, raised.detail as i64, 0, 0]
         }
     }
 }
@@ -102,20 +105,20 @@ fn tested_row(row: &mut [i64]) -> &mut Row {
     row.try_into().expect(TESTED)
 }
 
-fn done(done: bool) -> [i64; 3] {
+fn done(done: bool) -> [i64; REST] {
     assert!(done, "{TESTED}");
-    [0; 3]
+    [0; REST]
 }
 
 /// "all empty, row 0"
-fn fresh(cells: &mut [i64], row: &mut [i64]) -> [i64; 3] {
+fn fresh(cells: &mut [i64], row: &mut [i64]) -> [i64; REST] {
     cells.fill(0);
     row.fill(0);
-    [0; 3]
+    [0; REST]
 }
 
 /// "An image is copied into the cells from any start cell; an empty image changes nothing."
-fn load(cells: &mut [i64], image: &[i64], start: usize) -> [i64; 3] {
+fn load(cells: &mut [i64], image: &[i64], start: usize) -> [i64; REST] {
     cells[cell::LENGTH * start..][..image.len()].copy_from_slice(image);
-    [0; 3]
+    [0; REST]
 }

@@ -111,16 +111,19 @@ impl Trial {
     }
 }
 
+/// The most numbers that follow refusal and place: run's.
+pub const REST: usize = 4;
+
 /// Any call's answer; `rest` is what follows refusal and place in its struct, 0 where there is nothing more.
 #[derive(Clone, Copy, Debug, Default, PartialEq, Eq)]
 pub struct Answer {
     pub refusal: u64,
     pub place: u64,
-    pub rest: [i64; 3],
+    pub rest: [i64; REST],
 }
 
 impl Answer {
-    pub fn done(rest: [i64; 3]) -> Self {
+    pub fn done(rest: [i64; REST]) -> Self {
         Self { rest, ..Self::default() }
     }
 

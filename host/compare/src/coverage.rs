@@ -67,6 +67,12 @@ pub fn outcome(step: &Step) -> Outcome {
     }
 }
 
+/// An outcome's place in `OUTCOMES`.
+pub fn column(outcome: Outcome) -> Result<usize, String> {
+    let column = OUTCOMES.iter().position(|(known, ..)| *known == outcome);
+    column.ok_or(format!("no such outcome: {outcome:?}"))
+}
+
 /// Whether a form can come out so in a step that reads an operand outside the cells, or in one that does not.
 pub fn possible(form: Option<Form>, outcome: Outcome, read_outside: bool) -> bool {
     if read_outside { traps(form, outcome) } else { in_the_original(form, outcome) && !ceased(form, outcome) }
@@ -205,8 +211,7 @@ impl Coverage {
         let (outcome, read_outside) = (outcome(step), step.read_outside);
         let form = fetched.map(|cell| Form::of_tag(cell[0]).entry());
         let form = form.map_or(self.forms.len() - 1, |form| self.place[form]);
-        let column = OUTCOMES.iter().position(|(known, ..)| *known == outcome);
-        let column = column.ok_or(format!("no such outcome: {outcome:?}"))?;
+        let column = column(outcome)?;
         if !possible(self.forms[form], outcome, read_outside) {
             let told = if read_outside { " after a read outside" } else { "" };
             return Err(format!("{} came out as {outcome:?}{told}", name(self.forms[form])));

@@ -4,6 +4,7 @@ mod audit;
 mod calls;
 mod console;
 mod course;
+mod empty;
 mod outside;
 mod rules;
 
@@ -35,6 +36,7 @@ pub fn cases() -> Vec<Directed> {
     cases.extend(audit::cases());
     cases.extend(calls::cases());
     cases.extend(outside::cases());
+    cases.extend(empty::cases());
     cases
 }
 
@@ -124,7 +126,13 @@ impl Directed {
     }
 
     pub fn run(self, budget: u32, stop: u64, detail: u64, count: u64) -> Self {
-        self.call(Call::Run(budget), Answer { refusal: refusal::NONE, stop, detail, count })
+        self.call(Call::Run(budget), Answer { refusal: refusal::NONE, stop, detail, count, empty: 0 })
+    }
+
+    /// The last run took so many words from empty cells.
+    pub fn empty(mut self, empty: u64) -> Self {
+        self.answers.last_mut().expect("a run").empty = empty;
+        self
     }
 
     pub fn call(mut self, call: Call, answer: Answer) -> Self {

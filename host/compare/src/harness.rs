@@ -4,15 +4,19 @@
 //! they are counted apart, and held to the original's stop with its own entry of code 5 after it (`Judge`).
 //!
 //! A run is taken step by step, the other machine on a budget of 1, and then once more by the other machine on
-//! the whole budget. The judge's cells are compared as the numbers that it keeps; nothing is converted.
+//! the whole budget. The judge's cells are compared as the numbers that it keeps; nothing is converted. The original does not count the
+//! words taken from empty cells: their due count is told from the machine before the step (`taken`).
 
 use judge::{Judge, Step};
+use layout::at;
 use layout::cell::{self, EMPTY};
+use layout::memory::SAVES;
 use list::{Answer, CELLS, Call, Case, Lent, Machine};
 
 use crate::coverage::Coverage;
 use crate::driver::{Driver, fetched};
 use crate::invariants::{self, Before};
+use crate::taken;
 
 /// The judge's numbers are compared with the original in full after so many steps, and after each longer case.
 const VERIFY_EVERY: u64 = 256;
@@ -22,6 +26,7 @@ pub struct Harness<'m> {
     other: &'m mut dyn Machine,
     lent: Lent,
     pub coverage: Coverage,
+    pub taken: taken::Coverage,
     pub steps: u64,
     /// Of these, steps that read an operand outside the cells.
     pub read_outside: u64,
@@ -35,6 +40,7 @@ impl<'m> Harness<'m> {
             other,
             lent: Lent::zero(CELLS, 1, 0),
             coverage: Coverage::default(),
+            taken: taken::Coverage::default(),
             steps: 0,
             read_outside: 0,
             calls: 0,
@@ -87,11 +93,12 @@ impl<'m> Harness<'m> {
         let mut answer = Answer::DONE;
         while answer.count < u64::from(budget) {
             let step = self.step()?;
-            if !step.completed {
+            if step.count == 0 {
                 (answer.stop, answer.detail) = (step.stop, step.detail);
                 break;
             }
             answer.count += 1;
+            answer.empty += step.empty;
         }
         if let Some(whole) = &mut whole {
             let at_once = self.other.run(whole, budget);
@@ -102,14 +109,16 @@ impl<'m> Harness<'m> {
         Ok(answer)
     }
 
-    fn step(&mut self) -> Result<Step, String> {
+    /// The answer of a run on a budget of 1.
+    fn step(&mut self) -> Result<Answer, String> {
         let before = self.before();
+        let events = self.events(&before);
+        let [fetched, saved] = self.empty_around();
         let step = self.driver.step();
         self.steps += 1;
         self.read_outside += u64::from(step.read_outside);
         let answer = self.other.run(&mut self.lent, 1);
-        let due =
-            Answer { stop: step.stop, detail: step.detail, count: step.completed.into(), ..Answer::DONE };
+        let due = due(&step, taken::count(&events));
         if answer != due {
             return Err(format!("answered {answer:?}, the judge {due:?}"));
         }
@@ -117,14 +126,27 @@ impl<'m> Harness<'m> {
         let judge = &self.driver.judge;
         invariants::check(&before, &step, judge.row(), judge.cells(), judge.changed().len())?;
         self.coverage.count(before.fetched, &step)?;
+        self.taken.count(before.fetched, &events, &step)?;
+        self.taken.count_around(fetched, saved && step.entered.is_some());
         if self.steps.is_multiple_of(VERIFY_EVERY) {
             self.driver.judge.verify()?;
         }
-        Ok(step)
+        Ok(due)
+    }
+
+    fn events(&self, before: &Before) -> Vec<taken::Event> {
+        let judge = &self.driver.judge;
+        before.fetched.map_or(Vec::new(), |cell| taken::events(judge.row(), judge.cells(), cell))
     }
 
     fn before(&self) -> Before {
         Before { row: *self.driver.judge.row(), fetched: fetched(&self.driver.judge) }
+    }
+
+    /// Whether the cell that is fetched is empty, and whether one of those that an entry writes over is.
+    fn empty_around(&self) -> [bool; 2] {
+        let judge = &self.driver.judge;
+        [is_empty(judge, judge.row()[at::PC]), SAVES.iter().any(|address| is_empty(judge, (*address).into()))]
     }
 
     fn compare(&self) -> Result<(), String> {
@@ -143,6 +165,16 @@ impl<'m> Harness<'m> {
         }
         Ok(())
     }
+}
+
+/// Whether the cell at an address is there and empty.
+fn is_empty(judge: &Judge, address: i64) -> bool {
+    usize::try_from(address).is_ok_and(|at| at < CELLS && cell::get(judge.cells(), at) == EMPTY)
+}
+
+fn due(step: &Step, taken: u64) -> Answer {
+    let (count, empty) = if step.completed { (1, taken) } else { (0, 0) };
+    Answer { stop: step.stop, detail: step.detail, count, empty, ..Answer::DONE }
 }
 
 fn first_cell(judge: &Judge, lent: &Lent) -> String {

@@ -13,6 +13,7 @@ pub mod record;
 pub mod runner;
 pub mod single;
 pub mod tags;
+pub mod taken;
 pub mod words;
 
 pub use draws::{edges, forms, rng};

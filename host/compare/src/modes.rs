@@ -35,9 +35,10 @@ pub fn all(harness: &mut Harness, size: &Size, seed: u64) -> Result<Vec<String>,
     let after_words = harness.steps;
     programs(harness, size.programs, seed)?;
     let user = pairs::check(&mut Rng::new(seed + 2), size.pairs, 300)?;
-    let missing = harness.coverage.missing(1);
+    let mut missing = harness.coverage.missing(1);
+    missing.extend(harness.taken.missing());
     if !missing.is_empty() {
-        return Err(format!("{} (form, outcome) pairs not reached: {}", missing.len(), missing.join(", ")));
+        return Err(format!("{} pairs not reached: {}", missing.len(), missing.join(", ")));
     }
     let mut lines = vec![
         format!("{tags} cells: sound, encoding and cost as the original's types have them"),
@@ -54,13 +55,16 @@ pub fn all(harness: &mut Harness, size: &Size, seed: u64) -> Result<Vec<String>,
         format!("{user} steps in user mode by two machines with different consoles, alike"),
     ];
     lines.extend(harness.coverage.told());
+    lines.extend(harness.taken.told());
     Ok(lines)
 }
 
 fn singles(harness: &mut Harness, count: usize, seed: u64) -> Result<(), String> {
     let (mut rng, forms) = (Rng::new(seed), forms::all());
     for turn in 0..count {
-        checked(harness, &single::draw(&mut rng, &forms, turn))?;
+        // every other round of the forms with many empty cells
+        let draw = if turn / (forms.len() + 1) % 2 == 0 { single::draw } else { single::draw_empty };
+        checked(harness, &draw(&mut rng, &forms, turn))?;
     }
     Ok(())
 }

@@ -1,5 +1,5 @@
-//! The recorded list: the judge's answers to a fixed choice of cases. Cases in which a step reads an operand outside the cells, where
-//! the original has no answer, stand last, with the plain interpreter's answers.
+//! The recorded list: the judge's answers to a fixed choice of cases, with the plain interpreter's count of words taken from empty cells.
+//! Cases in which a step reads an operand outside the cells, where the original has no answer, stand last, with its answers.
 
 use judge::Judge;
 use layout::at;
@@ -10,6 +10,7 @@ use crate::coverage::Coverage;
 use crate::driver::{Driver, fetched};
 use crate::forms::*;
 use crate::rng::Rng;
+use crate::taken;
 use crate::{directed, programs, runner, single, words};
 
 /// So many single steps for each (form, outcome) pair.
@@ -42,6 +43,7 @@ pub fn list() -> Result<List, String> {
         recorder.case(&directed.case)?;
     }
     recorder.singles()?;
+    recorder.empty()?;
     recorder.words()?;
     recorder.programs()?;
     recorder.worked_runs()?;
@@ -65,6 +67,7 @@ struct Recorder {
     driver: Driver,
     writer: Writer,
     coverage: Coverage,
+    taken: taken::Coverage,
     /// Cases for the plain interpreter.
     outside: Vec<Case>,
     cases: usize,
@@ -73,9 +76,9 @@ struct Recorder {
 }
 
 impl Recorder {
-    /// Makes the case's calls on the judge and writes them down; or keeps the case, where the original has not all of the answers.
+    /// Makes the case's calls and writes them down; or keeps the case, where the original has not all of the answers.
     fn case(&mut self, case: &Case) -> Result<(), String> {
-        let calls = self.judged(case)?;
+        let calls = self.calls(case)?;
         if self.driver.read_outside > 0 {
             self.outside.push(case.clone());
         } else {
@@ -84,23 +87,25 @@ impl Recorder {
         Ok(())
     }
 
-    /// The cases that were kept: the plain interpreter's answers, which are also those put together in the judge. Their count.
+    /// Writes the cases that were kept; their count.
     fn of_plain(&mut self) -> Result<usize, String> {
         let cases = std::mem::take(&mut self.outside);
         for case in &cases {
-            let (calls, due) = (on_plain(case), self.judged(case)?);
-            if calls != due {
-                return Err(format!("plain interpreter and judge differ on\n{}", list::case_lines(1, case)));
-            }
+            let calls = self.calls(case)?;
             self.write(case, &calls);
         }
         Ok(cases.len())
     }
 
-    fn judged(&mut self, case: &Case) -> Result<Vec<Recorded>, String> {
+    /// The case's calls on the plain interpreter, each answered as by the judge but for the count of words taken from empty cells.
+    fn calls(&mut self, case: &Case) -> Result<Vec<Recorded>, String> {
         self.driver.start(case);
-        let calls = case.calls.iter().map(|call| recorded(&mut self.driver, call)).collect();
+        let judged: Vec<Recorded> = case.calls.iter().map(|call| recorded(&mut self.driver, call)).collect();
         self.driver.judge.verify()?;
+        let calls = on_plain(case);
+        if !calls.iter().zip(&judged).all(|(call, due)| is_same(call, due)) {
+            return Err(format!("plain interpreter and judge differ on\n{}", list::case_lines(1, case)));
+        }
         Ok(calls)
     }
 
@@ -131,6 +136,28 @@ impl Recorder {
             }
         }
         Ok(())
+    }
+
+    /// Draws until each way of taking a word from an empty cell, and of not taking it, was met; the first of each are recorded.
+    fn empty(&mut self) -> Result<(), String> {
+        let (mut rng, forms) = (Rng::new(SEED + 3), all());
+        for turn in 0..MOST_DRAWS {
+            let case = single::draw_empty(&mut rng, &forms, turn);
+            if case.queue.len() > 8 || case.output.len() > 8 {
+                continue;
+            }
+            self.driver.start(&case);
+            let (cell, judge) = (fetched(&self.driver.judge), &self.driver.judge);
+            let events = cell.map_or(Vec::new(), |cell| taken::events(judge.row(), judge.cells(), cell));
+            let step = self.driver.step();
+            if self.taken.count(cell, &events, &step)? {
+                self.case(&case)?;
+            }
+            if turn % 10_000 == 0 && self.taken.every_way() {
+                return Ok(());
+            }
+        }
+        Err(format!("empty cells are not met in every way: {:?}", self.taken.missing()))
     }
 
     fn words(&mut self) -> Result<(), String> {
@@ -207,6 +234,10 @@ fn on_plain(case: &Case) -> Vec<Recorded> {
         Recorded { call: call.clone(), answer, before, after: lent.clone(), buffer }
     };
     case.calls.iter().map(&mut made).collect()
+}
+
+fn is_same(call: &Recorded, due: &Recorded) -> bool {
+    call.answer.without_empty() == due.answer && call.after == due.after && call.buffer == due.buffer
 }
 
 fn recorded(driver: &mut Driver, call: &Call) -> Recorded {

@@ -77,7 +77,7 @@ pub fn same_in_the_runner(judge: &mut Judge, case: &Case, limit: u32) -> Option<
     judge.put(&lent.cells, &lent.queue, &lent.output, &lent.row);
     let ended = run_below(judge, limit)?;
     let mut small = Lent { cells: lent.cells[..cell::LENGTH * RUNNER_CELLS].to_vec(), ..lent };
-    let same = Plain.run(&mut small, BUDGET) == ended.answer
+    let same = Plain.run(&mut small, BUDGET).without_empty() == ended.answer
         && small.row == *judge.row()
         && small.output == judge.output()
         && small.cells == judge.cells()[..cell::LENGTH * RUNNER_CELLS];

@@ -23,6 +23,27 @@ pub fn draw(rng: &mut Rng, forms: &[Form], turn: usize) -> Case {
     case
 }
 
+/// The same with more empty cells: a, b, what the operands point to; an empty register points to cell 0.
+pub fn draw_empty(rng: &mut Rng, forms: &[Form], turn: usize) -> Case {
+    let mut case = draw(rng, forms, turn);
+    for place in [at::A, at::B] {
+        if rng.once_in(2) {
+            row::put_cell(&mut case.row, place, EMPTY);
+        }
+    }
+    let pc = case.row[at::PC] as usize;
+    if pc != 0 {
+        let held = cell(rng);
+        case.put(0, held);
+    }
+    for (address, held) in &mut case.cells {
+        if *address != pc && *address != INTERRUPT_HANDLER as usize && rng.once_in(3) {
+            *held = EMPTY;
+        }
+    }
+    case
+}
+
 fn draw_row(rng: &mut Rng, case: &mut Case) {
     let row = &mut case.row;
     row::put_cell(row, at::A, cell(rng));

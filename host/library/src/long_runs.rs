@@ -1,4 +1,5 @@
-//! Runs on large budgets: judge and library each take the whole budget at once and are compared at its end.
+//! Runs on large budgets: judge and library each take the whole budget at once and are compared at its end, and the library's count of
+//! words taken from empty cells with the plain interpreter's.
 
 use compare::driver::Driver;
 use compare::programs;
@@ -16,7 +17,7 @@ const MOST_DRAWS: usize = 200_000;
 /// A line on what was compared, or the first difference: so many programs, and more until one has ended by itself.
 pub fn check(seed: u64) -> Result<String, String> {
     let (mut rng, mut driver) = (Rng::new(seed), Driver::default());
-    let (mut programs, mut steps, mut ended) = (0, 0, 0);
+    let (mut programs, mut steps, mut empty, mut ended) = (0, 0, 0, 0);
     for _ in 0..MOST_DRAWS {
         let mut case = programs::draw(&mut rng);
         if programs >= PROGRAMS && ended > 0 {
@@ -24,15 +25,19 @@ pub fn check(seed: u64) -> Result<String, String> {
         }
         let Some(answer) = long_on_plain(&case) else { continue };
         case.calls = vec![Call::Run(budget(&mut rng, &answer)), Call::Run(0)];
-        steps += same(&mut driver, &case)?;
+        let ran = same(&mut driver, &case)?;
+        steps += ran.count;
+        empty += ran.empty;
         programs += 1;
         ended += usize::from(answer.stop != BUDGET_SPENT);
     }
-    if programs < PROGRAMS || ended == 0 {
-        return Err(format!("only {programs} long programs, {ended} that end, in {MOST_DRAWS} draws"));
+    if programs < PROGRAMS || ended == 0 || empty == 0 {
+        return Err(format!(
+            "only {programs} long programs, {ended} that end, {empty} empty cells, in {MOST_DRAWS} draws"
+        ));
     }
     Ok(format!(
-        "{steps} steps in {programs} runs on large budgets compared at their end; {ended} ended by themselves"
+        "{steps} steps in {programs} runs on large budgets compared at their end, {empty} words from empty cells; {ended} ended by themselves"
     ))
 }
 
@@ -47,13 +52,14 @@ fn budget(rng: &mut Rng, answer: &Answer) -> u32 {
     if answer.stop != BUDGET_SPENT { u32::MAX } else { rng.between(LONG as i64, MOST.into()) as u32 }
 }
 
-/// The count of steps that both took.
-fn same(driver: &mut Driver, case: &Case) -> Result<u64, String> {
+/// The steps that both took, and the words from empty cells.
+fn same(driver: &mut Driver, case: &Case) -> Result<Answer, String> {
     driver.start(case);
-    let (mut lent, mut steps) = (case.lent(), 0);
+    let (mut lent, mut plain, mut ran) = (case.lent(), case.lent(), Answer::DONE);
     for call in &case.calls {
         let (answer, _) = call.make(&mut Library, &mut lent);
-        let (due, _) = driver.call(call);
+        let empty = call.make(&mut Plain, &mut plain).0.empty;
+        let due = Answer { empty, ..driver.call(call).0 };
         driver.judge.verify()?;
         if answer != due || left(driver) != lent {
             let case = list::case_lines(1, case);
@@ -61,9 +67,10 @@ fn same(driver: &mut Driver, case: &Case) -> Result<u64, String> {
                 "{call:?}: answered {answer:?}, the judge {due:?}, or something is left otherwise\n{case}"
             ));
         }
-        steps += due.count;
+        ran.count += due.count;
+        ran.empty += due.empty;
     }
-    Ok(steps)
+    Ok(ran)
 }
 
 fn left(driver: &Driver) -> Lent {

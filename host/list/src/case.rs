@@ -25,25 +25,32 @@ pub enum Call {
     SetRegister(u64, i64),
 }
 
-/// A call's answer. Fields that a call does not give are 0; `count` is steps or drained bytes.
+/// A call's answer. Fields that a call does not give are 0; `count` is steps or drained bytes, `empty` the words that a run took from
+/// empty cells.
 #[derive(Clone, Copy, Debug, PartialEq, Eq)]
 pub struct Answer {
     pub refusal: u64,
     pub stop: u64,
     pub detail: u64,
     pub count: u64,
+    pub empty: u64,
 }
 
 impl Answer {
-    pub const DONE: Self = Self { refusal: refusal::NONE, stop: stop::BUDGET_SPENT, detail: 0, count: 0 };
+    pub const DONE: Self =
+        Self { refusal: refusal::NONE, stop: stop::BUDGET_SPENT, detail: 0, count: 0, empty: 0 };
 
     pub fn refused(refusal: u64) -> Self {
         Self { refusal, ..Self::DONE }
     }
+
+    /// As the original has it, which counts no empty cells.
+    pub fn without_empty(self) -> Self {
+        Self { empty: 0, ..self }
+    }
 }
 
 /// A call with its answer and what it left.
-#[derive(PartialEq, Eq)]
 pub struct Recorded {
     pub call: Call,
     pub answer: Answer,

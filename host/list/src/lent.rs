@@ -51,7 +51,7 @@ impl Machine for Plain {
     fn run(&mut self, lent: &mut Lent, budget: u32) -> Answer {
         let Lent { cells, queue, output, row } = lent;
         let ran = plain::run(cells, queue, output, row, budget);
-        Answer { stop: ran.stop, detail: ran.detail, count: ran.steps, ..Answer::DONE }
+        Answer { stop: ran.stop, detail: ran.detail, count: ran.steps, empty: ran.empty, ..Answer::DONE }
     }
 
     fn deliver(&mut self, lent: &mut Lent, bytes: &[u8]) -> Answer {

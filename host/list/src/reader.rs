@@ -30,6 +30,8 @@ struct Replay<'m> {
     /// The machine as the list says it is.
     expected: Lent,
     delivered: Vec<u8>,
+    /// The words that the next run is to take from empty cells.
+    empty: u64,
     buffer: Vec<u8>,
     expected_buffer: Vec<u8>,
     answered: Option<(Answer, Answer)>,
@@ -45,6 +47,7 @@ impl<'m> Replay<'m> {
             lent: Lent::zero(CELLS, 1, 0),
             expected: Lent::zero(CELLS, 1, 0),
             delivered: Vec::new(),
+            empty: 0,
             buffer: Vec::new(),
             expected_buffer: Vec::new(),
             answered: None,
@@ -61,6 +64,9 @@ impl<'m> Replay<'m> {
         if self.answered.is_some() && !(20..=29).contains(&kind) {
             return Err("a call is left without its closing line".into());
         }
+        if self.empty > 0 && kind != 10 {
+            return Err("no run after a count of empty cells".into());
+        }
         match kind {
             0 if a == 1 && b == CELLS as i64 => {}
             1 => self.open(number(a)?, number(b)?, number(c)?)?,
@@ -69,7 +75,11 @@ impl<'m> Replay<'m> {
                 set(&mut self.expected, kind, a, [b, c, d])?;
             }
             6 => self.delivered.push(byte(b)?),
-            10 => self.call(Call::Run(number(a)? as u32), answer(0, b, c, d)),
+            7 => self.empty = number(a)? as u64,
+            10 => {
+                let empty = std::mem::take(&mut self.empty);
+                self.call(Call::Run(number(a)? as u32), Answer { empty, ..answer(0, b, c, d) });
+            }
             11 => {
                 let bytes = std::mem::take(&mut self.delivered);
                 if number(a)? != bytes.len() {
@@ -165,5 +175,5 @@ fn byte(number: i64) -> Result<u8, String> {
 
 fn answer(refusal: i64, stop: i64, detail: i64, count: i64) -> Answer {
     let [refusal, stop, detail, count] = [refusal, stop, detail, count].map(|n| n as u64);
-    Answer { refusal, stop, detail, count }
+    Answer { refusal, stop, detail, count, empty: 0 }
 }

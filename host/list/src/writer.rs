@@ -43,11 +43,16 @@ impl Writer {
     }
 
     fn call(&mut self, recorded: &Recorded) {
-        let Answer { refusal, stop, detail, count } = recorded.answer;
-        let [refusal, stop, detail, count] = [refusal, stop, detail, count].map(|n| n as i64);
+        let Answer { refusal, stop, detail, count, empty } = recorded.answer;
+        let [refusal, stop, detail, count, empty] = [refusal, stop, detail, count, empty].map(|n| n as i64);
         let text = &mut self.text;
         match &recorded.call {
-            Call::Run(budget) => line(text, [10, (*budget).into(), stop, detail, count]),
+            Call::Run(budget) => {
+                if empty > 0 {
+                    line(text, [7, empty, 0, 0, 0]);
+                }
+                line(text, [10, (*budget).into(), stop, detail, count]);
+            }
             Call::Deliver(bytes) => {
                 assert!(bytes.len() <= MOST_DELIVERED);
                 for (i, byte) in bytes.iter().enumerate() {

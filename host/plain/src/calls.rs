@@ -11,6 +11,8 @@ pub struct Ran {
     pub stop: u64,
     pub detail: u64,
     pub steps: u64,
+    /// Words that the completed steps took from empty cells.
+    pub empty: u64,
 }
 
 /// Stop 0: the exception was entered.
@@ -21,12 +23,15 @@ pub struct Raised {
 
 pub fn run(cells: &mut [i64], queue: &mut [u8], output: &mut [u8], row: &mut Row, budget: u32) -> Ran {
     let console = console_of(queue, output, row);
-    let mut machine = Machine { cells, console, state: state_of(row) };
-    let mut ran = Ran { stop: stop::BUDGET_SPENT, detail: 0, steps: 0 };
+    let mut machine = Machine { cells, console, state: state_of(row), empty: 0 };
+    let mut ran = Ran { stop: stop::BUDGET_SPENT, detail: 0, steps: 0, empty: 0 };
     while ran.steps < u64::from(budget) {
-        if let Err((stop, detail)) = machine.step() {
-            (ran.stop, ran.detail) = (stop, detail);
-            break;
+        match machine.step() {
+            Ok(empty) => ran.empty += empty,
+            Err(stop) => {
+                (ran.stop, ran.detail) = stop;
+                break;
+            }
         }
         ran.steps += 1;
     }

@@ -1,7 +1,7 @@
 //! The 33 instructions.
 
 use layout::Cell;
-use layout::cell::{word, word_in};
+use layout::cell::word;
 use layout::code::{DIV_BY_ZERO, INVALID_INSTRUCTION, TRAP};
 use layout::limit::SHIFT_MOST;
 use layout::memory::{INTERRUPT_PC_SAVE, INTERRUPT_SR_SAVE};
@@ -26,7 +26,10 @@ impl Machine<'_> {
             op::FAS => self.fas(x, y),
             op::IN => self.input(x, y),
             op::JMP..=op::JGT => self.jump(operation, x),
-            op::LD => self.set(y.reg, self.cell_of(x)?),
+            op::LD => {
+                let cell = self.cell_of(x)?;
+                self.set(y.reg, cell)
+            }
             op::MUL => self.wrapping(x, y, |operand, register| register.overflowing_mul(operand)),
             op::NEG => self.neg(x),
             op::NOP => Ok(()),
@@ -55,7 +58,7 @@ impl Machine<'_> {
     }
 
     /// The operand's word, then the register's.
-    fn words(&self, x: Operand, y: Operand) -> Result<(i64, i64), Fault> {
+    fn words(&mut self, x: Operand, y: Operand) -> Result<(i64, i64), Fault> {
         Ok((self.word_of(x)?, self.word_of(y)?))
     }
 
@@ -137,7 +140,7 @@ impl Machine<'_> {
         self.write(address, second)
     }
 
-    fn target(&self, x: Operand) -> Result<u32, Fault> {
+    fn target(&mut self, x: Operand) -> Result<u32, Fault> {
         address_in(self.word_of(x)?).ok_or(Fault::Extract)
     }
 
@@ -167,7 +170,8 @@ impl Machine<'_> {
     }
 
     fn push(&mut self, x: Operand) -> Done {
-        self.push_cell(self.cell_of(x)?)
+        let cell = self.cell_of(x)?;
+        self.push_cell(cell)
     }
 
     /// sp stays moved where the store is outside.
@@ -190,16 +194,16 @@ impl Machine<'_> {
 
     fn rtn(&mut self) -> Done {
         let cell = self.pop_cell()?;
-        self.state.pc = word_in(cell).and_then(address_in).ok_or(Fault::CellError)?;
+        self.state.pc = self.take_address(cell).ok_or(Fault::CellError)?;
         Ok(())
     }
 
     /// pc is set before cell 101 is read.
     fn rti(&mut self) -> Done {
         self.privileged()?;
-        let pc = word_in(self.read(INTERRUPT_PC_SAVE)?).and_then(address_in);
-        self.state.pc = pc.ok_or(Fault::CellError)?;
-        self.state.sr = word_in(self.read(INTERRUPT_SR_SAVE)?).ok_or(Fault::CellError)?;
+        let (pc, sr) = (self.read(INTERRUPT_PC_SAVE)?, self.read(INTERRUPT_SR_SAVE)?);
+        self.state.pc = self.take_address(pc).ok_or(Fault::CellError)?;
+        self.state.sr = self.take(sr).ok_or(Fault::CellError)?;
         Ok(())
     }
 

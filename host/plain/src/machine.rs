@@ -1,7 +1,7 @@
 //! Registers, operands, exception entry and the step.
 
 use layout::Cell;
-use layout::cell::{self, is_instruction, word, word_in};
+use layout::cell::{self, EMPTY, is_instruction, word, word_in};
 use layout::code::{HARDWARE_INTERRUPT, INVALID_INSTRUCTION, INVALID_MEMORY_ACCESS, PRIVILEGED_INSTRUCTION};
 use layout::limit::CYCLES_MOST;
 use layout::memory::{INTERRUPT_EXCEPTION, INTERRUPT_HANDLER, INTERRUPT_PC_SAVE, INTERRUPT_SR_SAVE};
@@ -31,6 +31,8 @@ pub struct Machine<'a> {
     pub cells: &'a mut [i64],
     pub console: Console<'a>,
     pub state: State,
+    /// Words that this step took from empty cells.
+    pub empty: u64,
 }
 
 #[derive(Clone, Copy)]
@@ -44,12 +46,15 @@ pub struct State {
 }
 
 impl Machine<'_> {
-    pub fn step(&mut self) -> Result<(), Stop> {
+    /// How many words a completed step took from empty cells.
+    pub fn step(&mut self) -> Result<u64, Stop> {
+        self.empty = 0;
         if self.state.cycles > MOST_CYCLES - MOST_ADDED {
-            self.step_near_the_limit()
+            self.step_near_the_limit()?;
         } else {
-            self.step_with_room()
+            self.step_with_room()?;
         }
+        Ok(self.empty)
     }
 
     /// Takes the step and puts everything back where it passed the limit.
@@ -146,17 +151,28 @@ impl Machine<'_> {
         }
     }
 
-    /// sr asks for S first; pc and sp take addresses, sr words.
+    /// A cell's word. Empty is word 0, and it is counted that it was taken; an instruction has none.
+    pub fn take(&mut self, cell: Cell) -> Option<i64> {
+        self.empty += u64::from(cell == EMPTY);
+        word_in(cell)
+    }
+
+    /// A cell's word as an address.
+    pub fn take_address(&mut self, cell: Cell) -> Option<u32> {
+        self.take(cell).and_then(address_in)
+    }
+
+    /// sr asks for S first; pc and sp take addresses, sr words; a and b cells as they are.
     pub fn set(&mut self, reg: i64, cell: Cell) -> Result<(), Fault> {
-        let address = || word_in(cell).and_then(address_in).ok_or(Fault::Register(reg));
+        let refused = Fault::Register(reg);
         match reg {
             reg::A => self.state.a = cell,
             reg::B => self.state.b = cell,
-            reg::PC => self.state.pc = address()?,
-            reg::SP => self.state.sp = address()?,
+            reg::PC => self.state.pc = self.take_address(cell).ok_or(refused)?,
+            reg::SP => self.state.sp = self.take_address(cell).ok_or(refused)?,
             _ => {
                 self.privileged()?;
-                self.state.sr = word_in(cell).ok_or(Fault::Register(reg))?;
+                self.state.sr = self.take(cell).ok_or(refused)?;
             }
         }
         Ok(())
@@ -167,26 +183,30 @@ impl Machine<'_> {
     }
 
     /// The address that a memory operand names; none where its word is missing or no address.
-    pub fn address(&self, operand: Operand) -> Option<u32> {
-        let base = || word_in(self.get(operand.reg));
-        match operand.mode {
-            mode::DIR => address_in(operand.number),
-            mode::IND => address_in(base()?),
-            _ => address_in(base()?.wrapping_add(operand.number)),
+    pub fn address(&mut self, operand: Operand) -> Option<u32> {
+        if operand.mode == mode::DIR {
+            return address_in(operand.number);
         }
+        // an indirect operand's number is 0
+        let base = self.take(self.get(operand.reg))?;
+        address_in(base.wrapping_add(operand.number))
     }
 
     /// An operand's cell; a word that is no address is stop 4.
-    pub fn cell_of(&self, operand: Operand) -> Result<Cell, Fault> {
+    pub fn cell_of(&mut self, operand: Operand) -> Result<Cell, Fault> {
         match operand.mode {
             mode::IMM => Ok(word(operand.number)),
             mode::REG => Ok(self.get(operand.reg)),
-            _ => self.read(self.address(operand).ok_or(Fault::Extract)?),
+            _ => {
+                let address = self.address(operand).ok_or(Fault::Extract)?;
+                self.read(address)
+            }
         }
     }
 
-    pub fn word_of(&self, operand: Operand) -> Result<i64, Fault> {
-        word_in(self.cell_of(operand)?).ok_or(Fault::Extract)
+    pub fn word_of(&mut self, operand: Operand) -> Result<i64, Fault> {
+        let cell = self.cell_of(operand)?;
+        self.take(cell).ok_or(Fault::Extract)
     }
 }
 

@@ -11,8 +11,8 @@ impl Machine for Library {
     fn run(&mut self, lent: &mut Lent, budget: u32) -> Answer {
         let Lent { cells, queue, output, row } = lent;
         let ran = calls::run(&mut cells[..], &mut queue[..], &mut output[..], &mut row[..], budget);
-        let Ran { refusal, stop, detail, steps, .. } = ran;
-        Answer { refusal, stop, detail, count: steps }
+        let Ran { refusal, stop, detail, steps, empty, .. } = ran;
+        Answer { refusal, stop, detail, count: steps, empty }
     }
 
     fn deliver(&mut self, lent: &mut Lent, bytes: &[u8]) -> Answer {

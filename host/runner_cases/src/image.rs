@@ -22,14 +22,16 @@ impl Image {
     }
 }
 
-/// The seven lines of a run: stop, detail and steps, and the row afterwards.
-pub fn seven_lines(ran: [u64; 3], row: &Row) -> String {
-    let [stop, detail, steps] = ran;
+/// What a run answers: stop, detail, steps, and words taken from empty cells.
+pub type Ran = [u64; 4];
+
+/// The eight lines of a run and of the row afterwards.
+pub fn eight_lines([stop, detail, steps, empty]: Ran, row: &Row) -> String {
     let [pc, sp, sr, cycles, output] =
         [at::PC, at::SP, at::SR, at::CYCLES, at::OUTPUT_COUNT].map(|place| row[place]);
     let ([a0, a1, a2], [b0, b1, b2]) = (row::cell(row, at::A), row::cell(row, at::B));
     format!(
-        "stop,{stop},{detail}\nsteps,{steps}\ncycles,{cycles}\nregs,{pc},{sp},{sr}\na,{a0},{a1},{a2}\nb,{b0},{b1},{b2}\nout,{output}\n"
+        "stop,{stop},{detail}\nsteps,{steps}\ncycles,{cycles}\nregs,{pc},{sp},{sr}\na,{a0},{a1},{a2}\nb,{b0},{b1},{b2}\nout,{output}\nempty,{empty}\n"
     )
 }
 
@@ -51,19 +53,30 @@ fn cells_of(image: &Image, count: usize) -> Vec<i64> {
     cells
 }
 
-/// A program that touches no cell from 2,048 on: the judge's 10,000 cells give the same run.
+/// A program that touches no cell from 2,048 on: the judge's 10,000 cells give the same run. The original does not count the words taken
+/// from empty cells.
 pub fn judged(image: &Image) -> Case {
     let mut judge =
         judge::Judge::new(&cells_of(image, limit::CELLS_MOST), &[0; QUEUE], &[0; OUTPUT], &row_of(image));
     let ran = judge.run(BUDGET);
-    let due = seven_lines([ran.stop, ran.detail, ran.steps], judge.row());
-    assert!(due == at_the_edge(image).due, "the plain interpreter differs on\n{}", image.lines());
-    Case { input: image.lines().into_bytes(), due }
+    let ([stop, detail, steps, empty], row) = on_plain(image);
+    let same = [stop, detail, steps] == [ran.stop, ran.detail, ran.steps] && row == *judge.row();
+    assert!(same && ran.read_outside == 0, "the plain interpreter differs on\n{}", image.lines());
+    case(image, [stop, detail, steps, empty], &row)
 }
 
 /// A program that meets the end of 2,048 cells, which the original does not have: the plain interpreter answers.
 pub fn at_the_edge(image: &Image) -> Case {
+    let (ran, row) = on_plain(image);
+    case(image, ran, &row)
+}
+
+pub fn case(image: &Image, ran: Ran, row: &Row) -> Case {
+    Case { input: image.lines().into_bytes(), due: eight_lines(ran, row) }
+}
+
+fn on_plain(image: &Image) -> (Ran, Row) {
     let (mut cells, mut row) = (cells_of(image, CELLS), row_of(image));
     let ran = plain::run(&mut cells, &mut [0; QUEUE], &mut [0; OUTPUT], &mut row, BUDGET);
-    Case { input: image.lines().into_bytes(), due: seven_lines([ran.stop, ran.detail, ran.steps], &row) }
+    ([ran.stop, ran.detail, ran.steps, ran.empty], row)
 }

@@ -3,34 +3,37 @@
 use layout::{ROW, Row, at};
 
 use crate::Case;
-use crate::image::{Image, seven_lines};
+use crate::image::{Image, Ran, case};
 
 pub fn cases(list: &str) -> Vec<Case> {
     let mut all = Vec::new();
-    let mut open: Option<(Image, Row, [u64; 3])> = None;
+    let mut open: Option<(Image, Row, Ran)> = None;
     for line in list.lines() {
         let numbers: Vec<i64> = line.split(',').map(|field| field.parse().expect("a number")).collect();
         let [kind, a, b, c, d] = numbers[..] else { panic!("five numbers stand in a line") };
         match (kind, &mut open) {
-            (1, _) => open = (d == 1).then(|| (Image::default(), [0; ROW], [0; 3])),
+            (1, _) => open = (d == 1).then(|| (Image::default(), [0; ROW], [0; 4])),
             (2, Some((image, _, _))) => image.cells.push((a, [b, c, d])),
             (3, Some((image, row, _))) => {
                 let place = place(a);
                 row[place] = b;
                 image.start[place - at::PC] = b;
             }
-            (10, Some((_, _, ran))) => {
-                *ran = [b, c, d].map(|number| number.try_into().expect("no negative answer"))
-            }
+            (7, Some((_, _, ran))) => ran[3] = answer(a),
+            (10, Some((_, _, ran))) => [ran[0], ran[1], ran[2]] = [b, c, d].map(answer),
             (21, Some((_, row, _))) => row[place(a)] = b,
             (29, Some((image, row, ran))) => {
-                all.push(Case { input: image.lines().into_bytes(), due: seven_lines(*ran, row) });
+                all.push(case(image, *ran, row));
                 open = None;
             }
             _ => {}
         }
     }
     all
+}
+
+fn answer(number: i64) -> u64 {
+    number.try_into().expect("no negative answer")
 }
 
 fn place(from_1: i64) -> usize {

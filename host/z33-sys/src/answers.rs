@@ -26,6 +26,8 @@ pub struct z33_ran {
     pub detail: u64,
     /// How many steps were completed.
     pub steps: u64,
+    /// How many words these steps took from empty cells.
+    pub empty: u64,
 }
 
 /// What a drain answers.
@@ -83,6 +85,6 @@ pub struct z33_raised {
 }
 
 const _: () = {
-    assert!(size_of::<z33_done>() == 16 && size_of::<z33_ran>() == 40 && size_of::<z33_drained>() == 24);
+    assert!(size_of::<z33_done>() == 16 && size_of::<z33_ran>() == 48 && size_of::<z33_drained>() == 24);
     assert!(size_of::<z33_counted>() == 24 && size_of::<z33_cell>() == 40 && size_of::<z33_raised>() == 32);
 };

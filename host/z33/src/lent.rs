@@ -21,7 +21,7 @@ pub fn fresh(cells: &mut [i64], row: &mut [i64]) -> Result<(), Refusal> {
     Refusal::check(done.refusal, done.place)
 }
 
-/// Takes steps until one does not complete, or `budget` of them have.
+/// Takes steps until one does not complete, or `budget` of them have; tells also how many words they took from empty cells.
 pub fn run(
     cells: &mut [i64],
     queue: &mut [u8],
@@ -43,7 +43,7 @@ pub fn run(
         )
     };
     Refusal::check(ran.refusal, ran.place)?;
-    Ok(Ran { stop: Stop::of(ran.stop, ran.detail), steps: ran.steps })
+    Ok(Ran { stop: Stop::of(ran.stop, ran.detail), steps: ran.steps, empty: ran.empty })
 }
 
 /// Puts bytes behind the unread ones in the queue.

@@ -86,11 +86,13 @@ pub struct Ran {
     pub stop: Stop,
     /// How many steps were completed.
     pub steps: u64,
+    /// How many words these steps took from empty cells, which read as word 0.
+    pub empty: u64,
 }
 
 impl fmt::Display for Ran {
     fn fmt(&self, f: &mut fmt::Formatter) -> fmt::Result {
-        let Ran { stop, steps } = self;
+        let Ran { stop, steps, .. } = self;
         write!(f, "{stop} after {steps} step{}", if *steps == 1 { "" } else { "s" })
     }
 }

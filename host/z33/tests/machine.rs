@@ -79,22 +79,22 @@ fn each_refusal_has_its_number_and_words() {
 
 #[test]
 fn each_stop_has_its_number_and_words() {
-    let push = one(19952, 0, 0); // push %a
+    let push = one(19952, 0, 0); // push 0
     let cases: [(&[Cell], u32, Ran, (u64, u64), &str); 8] = [
-        (&[NOP, NOP], 1, Ran { stop: Stop::BudgetSpent, steps: 1 }, (0, 0), "budget spent after 1 step"),
-        (&[NOP, NOP, RESET], 9, Ran { stop: Stop::Reset, steps: 2 }, (1, 0), "reset after 2 steps"),
+        (&[NOP, NOP], 1, Ran { stop: Stop::BudgetSpent, steps: 1, empty: 0 }, (0, 0), "budget spent after 1 step"),
+        (&[NOP, NOP, RESET], 9, Ran { stop: Stop::Reset, steps: 2, empty: 0 }, (1, 0), "reset after 2 steps"),
         // div 0,%a
         (
             &[one(3802, 0, 0)],
             9,
-            Ran { stop: Stop::NoHandler(Exception::DivByZero), steps: 0 },
+            Ran { stop: Stop::NoHandler(Exception::DivByZero), steps: 0, empty: 0 },
             (2, 1),
             "division by zero without a handler after 0 steps",
         ),
         (
             &[push],
             9,
-            Ran { stop: Stop::NoHandler(Exception::InvalidMemoryAccess), steps: 0 },
+            Ran { stop: Stop::NoHandler(Exception::InvalidMemoryAccess), steps: 0, empty: 0 },
             (2, 5),
             "invalid memory access without a handler after 0 steps",
         ),
@@ -102,7 +102,7 @@ fn each_stop_has_its_number_and_words() {
         (
             &[one(13102, 5000, 0)],
             9,
-            Ran { stop: Stop::NoHandler(Exception::InvalidMemoryAccess), steps: 0 },
+            Ran { stop: Stop::NoHandler(Exception::InvalidMemoryAccess), steps: 0, empty: 0 },
             (2, 5),
             "invalid memory access without a handler after 0 steps",
         ),
@@ -110,7 +110,7 @@ fn each_stop_has_its_number_and_words() {
         (
             &[one(6452, -1, 0)],
             9,
-            Ran { stop: Stop::Extract, steps: 0 },
+            Ran { stop: Stop::Extract, steps: 0, empty: 0 },
             (4, 0),
             "an operand, register or jump target that cannot be taken after 0 steps",
         ),
@@ -118,7 +118,7 @@ fn each_stop_has_its_number_and_words() {
         (
             &[one(12805, -1, 0)],
             9,
-            Ran { stop: Stop::InvalidRegister(Register::Sp), steps: 0 },
+            Ran { stop: Stop::InvalidRegister(Register::Sp), steps: 0, empty: 0 },
             (5, 3),
             "a value that sp cannot take after 0 steps",
         ),
@@ -126,7 +126,7 @@ fn each_stop_has_its_number_and_words() {
         (
             &[one(18227, 65, 111); 3],
             9,
-            Ran { stop: Stop::OutputFull, steps: 2 },
+            Ran { stop: Stop::OutputFull, steps: 2, empty: 0 },
             (6, 0),
             "output record full after 2 steps",
         ),
@@ -148,6 +148,22 @@ fn each_stop_has_its_number_and_words() {
     row[at::CYCLES] = i64::MAX;
     let mut cells = [NOP.numbers(); 256].concat();
     assert_eq!(lent::run(&mut cells, &mut [0], &mut [], &mut row, 1).unwrap().stop, Stop::CyclesFull);
+}
+
+#[test]
+fn words_from_empty_cells_are_counted() {
+    // add %a,%a with a empty; add [300],%a; jmp [%b+300] to cell 0
+    let mut m = machine(&[one(352, 0, 0), one(502, 300, 0), one(7057, 300, 0)]);
+    let ran = m.run(3).unwrap();
+    assert_eq!((ran.stop, ran.steps, ran.empty), (Stop::BudgetSpent, 3, 5));
+    // a is a word now
+    assert_eq!(m.run(3).unwrap().empty, 3);
+    assert_eq!(m.run(0).unwrap().empty, 0);
+    // push %a, and div %b,%b without handler
+    let mut m = machine(&[one(20102, 0, 0), one(3958, 0, 0)]);
+    m.set_register(Register::Sp, 300).unwrap();
+    let ran = m.run(9).unwrap();
+    assert_eq!((ran.stop.number(), ran.steps, ran.empty), (2, 1, 0));
 }
 
 #[test]

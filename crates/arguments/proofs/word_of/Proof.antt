@@ -2,10 +2,10 @@ use mathlib.Core.Path.{_∙_, ap}
 use lib.IntN.{ℤ}
 use Rattle.definition.specs.declared.Cell.{Cell}
 use Rattle.definition.specs.declared.Error.the-variants.{Extract}
-use Rattle.definition.specs.Exec.{Res, andThen}
+use Rattle.definition.specs.Exec.{Res, andThen, takeWord, takeAddress}
 use Rattle.arguments.specs.Operands.{argOf}
 use Rattle.arguments.specs.Taken.{tookWord}
-use Rattle.arguments.proofs.Laws.{wordIn, cell-of-is}
+use Rattle.arguments.proofs.Laws.{cell-of-is}
 use borrow.Author.Needs.{needs}
 use Rattle.arguments.proofs.word_of.Statement.{statement}
 use Rattle.arguments.proofs.word_of.Tie as tie
@@ -25,7 +25,7 @@ returns c =
     let at-cell-of = c .before in
     let start = at-cell-of .before in
     let a = start .args in let l = a .cells .now in
-    c .word-in .ensures l ∙ ap (λ (m : Res Cell). tookWord (andThen m (wordIn Extract))) (cell-of-is l (a .s) (argOf (a .x)) (at-cell-of .cell-of .result) (at-cell-of .cell-of .ensures))
+    c .word-in .ensures l ∙ ap (λ (m : Res Cell). tookWord (andThen m (λ v. takeWord v Extract))) (cell-of-is l (a .s) (argOf (a .x)) (at-cell-of .cell-of .result) (at-cell-of .cell-of .ensures))
 
 pub word-of-spec : {M : Type 1} → statement M
 word-of-spec = tie.close (tie.spec cell-of-requires word-in-requires returns)

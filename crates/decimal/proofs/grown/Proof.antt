@@ -1,3 +1,4 @@
+use mathlib.Core.Path.{refl}
 use borrow.Author.Tests.{lt-ltb, le-ltb}
 use Rattle.decimal.specs.Decimal.{capStep}
 use borrow.Author.Needs.{needs}
@@ -16,7 +17,7 @@ add-result c = search needs
 
 returns-2 : tie.Need-returns-2
 unfolding capStep
-returns-2 c = rw (le-ltb 922337203685477580 _ (c .if1 .left))
+returns-2 c = rw (le-ltb 922337203685477580 _ (c .if1 .left)) refl
 
 pub grown-spec : {M : Type 1} → statement M
 grown-spec = tie.close (tie.spec returns mul-result add-result returns-2)

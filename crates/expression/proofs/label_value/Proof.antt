@@ -1,4 +1,4 @@
-use mathlib.Core.Path.{_∙_, sym, ap}
+use mathlib.Core.Path.{refl, _∙_}
 use Rattle.expression.specs.Values.{placeValue, numberValue}
 use Rattle.expression.proofs.Laws.{small-value}
 use borrow.Author.Needs.{needs}
@@ -16,7 +16,7 @@ enum-told c = search needs
 
 returns : tie.Need-returns
 unfolding placeValue
-returns c = rw (c .enum-told .given .1)
+returns c = rw (c .enum-told .given .1) refl
 
 sized-requires : tie.Need-sized-requires
 sized-requires c κs = search needs

@@ -1,5 +1,6 @@
 use mathlib.Core.Path.{sym, _∙_, ap}
 use Rattle.word.proofs.Laws.{back}
+use Rattle.definition.specs.Word.{addressOf}
 use Rattle.definition.specs.Memory.{asAddress}
 use borrow.Author.Needs.{needs}
 use Rattle.memory.proofs.as_address.Statement.{statement}
@@ -17,6 +18,9 @@ to-address-requires c κs = search needs
 enum-told : tie.Need-enum-told
 enum-told c = search needs
 
+enum-told-2 : tie.Need-enum-told-2
+enum-told-2 c = search needs
+
 returns : tie.Need-returns
 unfolding asAddress
 returns c =
@@ -25,8 +29,12 @@ returns c =
     let w = at-w .w .given .0 .0 in rw (back w (at-known-told .known-told .given .0 .1)) at (c .to-address .ensures) ∙ ap asAddress (sym (at-w .w .given .1))
 
 returns-2 : tie.Need-returns-2
-unfolding asAddress
+unfolding asAddress addressOf
 returns-2 c = ap asAddress (sym (c .enum-told .given .1))
 
+returns-3 : tie.Need-returns-3
+unfolding asAddress
+returns-3 c = ap asAddress (sym (c .enum-told2 .given .1))
+
 pub as-address-spec : {M : Type 1} → statement M
-as-address-spec = tie.close (tie.spec enum-known-w to-address-requires enum-told returns returns-2)
+as-address-spec = tie.close (tie.spec enum-known-w to-address-requires enum-told enum-told-2 returns returns-2 returns-3)

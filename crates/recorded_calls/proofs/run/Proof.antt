@@ -12,7 +12,7 @@ use Rattle.definition.specs.Word.{bits, addressOf}
 use Rattle.word.proofs.Laws.{back}
 use borrow.Author.Tests.{eq-eqb, ne-eqb, lt-ltb, le-ltb}
 use Rattle.recorded_cases.specs.declared.state.State.{State}
-use Rattle.recorded_calls.specs.Replay.{answer, afterCall, runOn}
+use Rattle.recorded_calls.specs.Replay.{runAnswer, afterCall, runOn}
 use Rattle.definition.specs.declared.Address.{Address}
 use borrow.Author.Needs.{needs}
 use Rattle.recorded_calls.proofs.run.Statement.{statement}
@@ -65,7 +65,7 @@ returns-2 c = let a = c .before .before .before .before .before .before .before 
     let b = rw (back (l .b) (g .1 .1 .0 .1)) at (c .before .before .before .before .before .to-bits .ensures) in
     let z = rw (back (l .c) (g .1 .1 .1 .0 .1)) at (c .before .before .before .to-bits2 .ensures) in
     let d = rw (back (l .d) (g .1 .1 .1 .1 .0 .1)) at (c .before .to-bits3 .ensures) in
-    rw (c .called .ensures, b, z, d) (ap (λ (x : Called Ran Lent). (afterCall s 0 (answer (x .answer .refusal) (x .answer .place) (x .answer .stop) (x .answer .detail) (x .answer .steps)) (answer 0 0 (bits (l .b)) (bits (l .c)) (bits (l .d))), x .left)) (c .before .before .before .before .before .before .before .run-in .ensures) ∙ sym (ap (λ (x : Address). runOn s l m x) e))
+    rw (c .called .ensures, b, z, d) (ap (λ (x : Called Ran Lent). (afterCall s 0 (runAnswer (x .answer .refusal) (x .answer .place) (x .answer .stop) (x .answer .detail) (x .answer .steps) (x .answer .empty)) (runAnswer 0 0 (bits (l .b)) (bits (l .c)) (bits (l .d)) (s .empty)), x .left)) (c .before .before .before .before .before .before .before .run-in .ensures) ∙ sym (ap (λ (x : Address). runOn s l m x) e))
 
 pub run-spec : {M : Type 1} → statement M
 run-spec =

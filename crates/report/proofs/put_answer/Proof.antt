@@ -29,42 +29,36 @@ put-byte-requires : tie.Need-put-byte-requires
 unfolding answerText line fields
 put-byte-requires c κs = omega (arith, simp length-append at (c .before .before .before .before .before .before .before .before .before .before .before .before .before .before .before .pre))
 
-slice-aggregate-put-2 : tie.Need-slice-aggregate-put-2
-slice-aggregate-put-2 c = search needs
+slice-aggregate-put-count-line : tie.Need-slice-aggregate-put-count-line
+slice-aggregate-put-count-line c = search needs
 
-put-requires-2 : tie.Need-put-requires-2
-unfolding answerText line fields
-put-requires-2 c κs = omega (arith, simp length-append at (c .before .before .before .before .before .before .before .before .before .before .before .before .before .before .before .before .before .before .before .before .pre))
-
-put-count-requires-3 : tie.Need-put-count-requires-3
-unfolding answerText line fields
-put-count-requires-3 c κs = omega (arith, simp length-append at (c .before .before .before .before .before .before .before .before .before .before .before .before .before .before .before .before .before .before .before .before .before .before .before .before .pre))
-
-put-byte-requires-2 : tie.Need-put-byte-requires-2
-unfolding answerText line fields
-put-byte-requires-2 c κs = omega (arith, simp length-append at (c .before .before .before .before .before .before .before .before .before .before .before .before .before .before .before .before .before .before .before .before .before .before .before .before .before .before .before .before .pre))
+put-count-line-requires : tie.Need-put-count-line-requires
+put-count-line-requires c κs =
+    let start = c .before .before .before .before .before .before .before .before .before .before .before .before .before .before .before .before .before .before .before .before in
+    omega (arith, start .pre, simp length-append at (ap length (answer-pieces (start .args .ran))))
 
 same-length : tie.Need-same-length
 same-length c = search needs
 
 returns : tie.Need-returns
-returns c = let r = c .before .before .before .before .before .before .before .before .before .before .before .before .before .before .before .before .before .before .before .before .before .before .before .before .before .before .before .before .before .before .before .args .ran in
-    let u = field (pos (r .steps)) ++ (10 ∷ []) in
-    let v = stepsName ++ u in
+returns c =
+    let at-line = c .before .before in
+    let at-byte = at-line .before .before .before .before .before in
+    let at-detail = at-byte .before .before .before .before in
+    let at-stop = at-detail .before .before .before .before in
+    let at-name = at-stop .before .before .before .before in
+    let r = at-name .before .before .before .before .args .ran in
+    let v = line stepsName (pos (r .steps) ∷ []) in
     let w = (10 ∷ []) ++ v in
     let x = field (pos (r .detail)) ++ w in
-    let e₁ = c .before .before .before .before .before .before .before .before .before .before .before .before .before .before .before .before .before .before .before .before .before .before .before .before .before .before .before .put in
-    let e₂ = c .before .before .before .before .before .before .before .before .before .before .before .before .before .before .before .before .before .before .before .before .before .before .before .put-count in
-    let e₃ = c .before .before .before .before .before .before .before .before .before .before .before .before .before .before .before .before .before .before .before .put-count2 in
-    let e₄ = c .before .before .before .before .before .before .before .before .before .before .before .before .before .before .before .put-byte in
-    let e₅ = c .before .before .before .before .before .before .before .before .before .before .put2 in
-    let e₆ = c .before .before .before .before .before .before .put-count3 in (
+    let e₁ = at-name .put in
+    let e₂ = at-stop .put-count in
+    let e₃ = at-detail .put-count2 in
+    let e₄ = at-byte .put-byte in (
       put-then [] stopName (field (pos (r .stop)) ++ x) (e₁ .ensures .0)
           (put-then (take (e₁ .result) (e₁ .last .0)) (field (pos (r .stop))) x (e₂ .ensures .0)
           (put-then (take (e₂ .result) (e₂ .last .0)) (field (pos (r .detail))) w (e₃ .ensures .0)
-          (put-then (take (e₃ .result) (e₃ .last .0)) (10 ∷ []) v (e₄ .ensures .0)
-          (put-then (take (e₄ .result) (e₄ .last .0)) stepsName u (e₅ .ensures .0)
-          (put-then (take (e₅ .result) (e₅ .last .0)) (field (pos (r .steps))) (10 ∷ []) (e₆ .ensures .0) (c .before .before .put-byte2 .ensures .0))))))
+          (put-then (take (e₃ .result) (e₃ .last .0)) (10 ∷ []) v (e₄ .ensures .0) (at-line .put-count-line .ensures .0))))
           ∙ sym (answer-pieces r),
       omega (arith, simp length-append at (ap length (answer-pieces r))),
     )
@@ -78,9 +72,7 @@ put-answer-spec =
     put-count-requires
     put-count-requires-2
     put-byte-requires
-    slice-aggregate-put-2
-    put-requires-2
-    put-count-requires-3
-    put-byte-requires-2
+    slice-aggregate-put-count-line
+    put-count-line-requires
     same-length
     returns)

@@ -281,6 +281,7 @@ fn fetched_copy() -> Vec<Directed> {
             .then_at(77, 1),
         at_10("st over itself", instruction(ST, reg(A), dir(10)))
             .done()
+            .empty(1)
             .then_cell(10, word(0))
             .then_at(11, 2),
         at_10("fas over itself", fas).done().then_register(at::A, fas).then_cell(10, word(1)).then_at(11, 2),
@@ -365,6 +366,7 @@ fn interrupts_at_once() -> Vec<Directed> {
             .row(at::PENDING, 1)
             .cell(200, nop())
             .done()
+            .empty(1)
             .then_cell(8, word(11))
             .then_entered(0, I, 0)
             .then(at::PENDING, 0)

@@ -21,6 +21,7 @@ fn worked_run() -> Directed {
         .cell(0, [202, 5, 0])
         .cell(1, [20_702, 0, 0])
         .run(100_000, 1, 0, 1)
+        .empty(1)
         .then_register(at::A, word(5))
         .then_at(1, 1)
 }

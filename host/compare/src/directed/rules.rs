@@ -57,6 +57,7 @@ fn arithmetic() -> Vec<Directed> {
             .then(at::SR, V | Z),
         at_10("empty reads as 0, and neg makes it a word", instruction(NEG, reg(A), NONE))
             .done()
+            .empty(1)
             .then_register(at::A, word(0))
             .then_at(11, 1)
             .then(at::SR, Z),
@@ -141,6 +142,7 @@ fn cells_carried() -> Vec<Directed> {
             .then_at(11, 2),
         at_10("st of empty is word 0", instruction(ST, reg(A), dir(50)))
             .done()
+            .empty(1)
             .then_cell(50, word(0))
             .then_at(11, 2),
         at_10("st of an instruction stops", instruction(ST, reg(A), dir(50)))
@@ -149,6 +151,7 @@ fn cells_carried() -> Vec<Directed> {
             .then(at::PC, 11),
         at_10("an empty cell into sp is 0", instruction(LD, dir(50), reg(SP)))
             .done()
+            .empty(1)
             .then(at::SP, 0)
             .then_at(11, 2),
         at_10("an instruction into sp", instruction(LD, dir(50), reg(SP)))
@@ -191,6 +194,7 @@ fn addresses() -> Vec<Directed> {
         at_10("an empty register is base 0", instruction(LD, ind(A), reg(B)))
             .cell(0, word(8))
             .done()
+            .empty(1)
             .then_register(at::B, word(8))
             .then_at(11, 2),
         at_10("pop at sp 10,000 leaves sp", instruction(POP, reg(A), NONE))
@@ -284,6 +288,7 @@ fn control() -> Vec<Directed> {
         at_10("rti with empty cells", instruction(RTI, NONE, NONE))
             .row(at::SR, S)
             .done()
+            .empty(2)
             .then_at(0, 1)
             .then(at::SR, 0),
         at_10("a jump not taken reads nothing and costs the same", instruction(JEQ, dir(10_000), NONE))

@@ -1,8 +1,6 @@
 use mathlib.Core.Path.{_∙_, ap}
-use lib.IntN.{ℤ}
-use Rattle.definition.specs.Exec.{Res, andThen}
 use Rattle.arguments.specs.Taken.{tookAddress}
-use Rattle.arguments.proofs.Laws.{addressIn, in-cell-is}
+use Rattle.arguments.proofs.Laws.{address-taken}
 use borrow.Author.Needs.{needs}
 use Rattle.arguments.proofs.taken.address_in.Statement.{statement}
 use Rattle.arguments.proofs.taken.address_in.Tie as tie
@@ -21,8 +19,7 @@ returns : tie.Need-returns
 returns c =
     let at-word-in = c .before in
     let start = at-word-in .before in
-    λ l. let e = start .args .error in
-    c .word-address .ensures l ∙ ap (λ (m : Res ℤ). tookAddress (andThen m (addressIn e))) (in-cell-is l e (start .args .c) (at-word-in .word-in .result) (at-word-in .word-in .ensures l))
+    λ l. let a = start .args in c .word-address .ensures l ∙ ap tookAddress (address-taken l (a .error) (a .c) (at-word-in .word-in .result) (at-word-in .word-in .ensures l))
 
 pub address-in-spec : {M : Type 1} → statement M
 address-in-spec = tie.close (tie.spec word-in-requires word-address-requires returns)

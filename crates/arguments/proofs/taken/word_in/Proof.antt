@@ -1,8 +1,8 @@
 use mathlib.Core.Path.{refl, _∙_, ap}
 use Rattle.definition.specs.declared.Word.{Word}
-use Rattle.definition.specs.Exec.{core, orWord}
+use Rattle.definition.specs.Exec.{core, orWord, takeWord}
 use Rattle.arguments.specs.Taken.{tookWord, cellRes}
-use Rattle.arguments.proofs.Laws.{wordIn, cell-ok, cell-err}
+use Rattle.arguments.proofs.Laws.{cell-ok, cell-err}
 use borrow.Author.Needs.{needs}
 use Rattle.arguments.proofs.taken.word_in.Statement.{statement}
 use Rattle.arguments.proofs.taken.word_in.Tie as tie
@@ -23,12 +23,12 @@ returns c =
     let at-if1 = at-extract-word .before .before in
     let start = at-if1 .before .before in
     λ l. let v = start .args .c in
-    c .or-word .ensures l ∙ ap tookWord (cell-ok l v refl (wordIn (start .args .error)) (at-if1 .if1 .taken) (ap (λ (w : Word). orWord w (start .args .error) (core l (v .s))) (at-extract-word .extract-word .ensures)))
+    c .or-word .ensures l ∙ ap tookWord (cell-ok l v refl (λ v. takeWord v (start .args .error)) (at-if1 .if1 .taken) (ap (λ (w : Word). orWord w (start .args .error) (core l (v .s))) (at-extract-word .extract-word .ensures)))
 
 returns-2 : tie.Need-returns-2
 returns-2 c =
     let start = c .before .before in
-    λ l. let v = start .args .c in ap tookWord (cell-err l v refl (wordIn (start .args .error)) (c .if1 .left) refl)
+    λ l. let v = start .args .c in ap tookWord (cell-err l v refl (λ v. takeWord v (start .args .error)) (c .if1 .left) refl)
 
 pub word-in-spec : {M : Type 1} → statement M
 word-in-spec = tie.close (tie.spec extract-word-requires or-word-requires returns returns-2)

@@ -26,6 +26,9 @@ no-detail e = let z : _≡_ {A = ℕ} 0 1 = cc in omega arith
 no-count : F.Count ≡ F.Nothing → ⊥
 no-count e = let z : _≡_ {A = ℕ} 0 1 = cc in omega arith
 
+no-empty : F.Empty ≡ F.Nothing → ⊥
+no-empty e = let z : _≡_ {A = ℕ} 0 1 = cc in omega arith
+
 returns : tie.Need-returns
 unfolding answerFault
 returns c = (((λ e. absurd (no-refusal e)), λ e. absurd (c .if1 .taken (ap (λ (a : Answer). a .refusal) e))), simp (ne-eqb _ _ (c .if1 .taken)))
@@ -48,7 +51,12 @@ returns-5 c = (((λ e. absurd (no-count e)), λ e. absurd (c .if5 .taken (ap (λ
 
 returns-6 : tie.Need-returns-6
 unfolding answerFault
-returns-6 c = (((λ e. λ i. record { refusal = c .before .before .before .before .before .before .before .before .before .before .before .before .if1 .left i; place = c .before .before .before .before .before .before .before .before .before .if2 .left i; stop = c .before .before .before .before .before .before .if3 .left i; detail = c .before .before .before .if4 .left i; count = c .if5 .left i }), λ e. refl), simp (eq-eqb _ _ (c .before .before .before .before .before .before .before .before .before .before .before .before .if1 .left), eq-eqb _ _ (c .before .before .before .before .before .before .before .before .before .if2 .left), eq-eqb _ _ (c .before .before .before .before .before .before .if3 .left), eq-eqb _ _ (c .before .before .before .if4 .left), eq-eqb _ _ (c .if5 .left)))
+returns-6 c = (((λ e. absurd (no-empty e)), λ e. absurd (c .if6 .taken (ap (λ (a : Answer). a .empty) e))), simp (eq-eqb _ _ (c .before .before .before .before .before .before .before .before .before .before .before .before .before .before .before .if1 .left), eq-eqb _ _ (c .before .before .before .before .before .before .before .before .before .before .before .before .if2 .left), eq-eqb _ _ (c .before .before .before .before .before .before .before .before .before .if3 .left), eq-eqb _ _ (c .before .before .before .before .before .before .if4 .left), eq-eqb _ _ (c .before .before .before .if5 .left), ne-eqb _ _ (c .if6 .taken)))
+
+returns-7 : tie.Need-returns-7
+unfolding answerFault
+returns-7 c = (((λ e. λ i. record { refusal = c .before .before .before .before .before .before .before .before .before .before .before .before .before .before .before .if1 .left i; place = c .before .before .before .before .before .before .before .before .before .before .before .before .if2 .left i; stop = c .before .before .before .before .before .before .before .before .before .if3 .left i; detail = c .before .before .before .before .before .before .if4 .left i; count = c .before .before .before .if5 .left i; empty = c .if6 .left i }), λ e. refl), simp (eq-eqb _ _ (c .before .before .before .before .before .before .before .before .before .before .before .before .before .before .before .if1 .left), eq-eqb _ _ (c .before .before .before .before .before .before .before .before .before .before .before .before .if2 .left), eq-eqb _ _ (c .before .before .before .before .before .before .before .before .before .if3 .left), eq-eqb _ _ (c .before .before .before .before .before .before .if4 .left), eq-eqb _ _ (c .before .before .before .if5 .left), eq-eqb _ _ (c .if6 .left)))
 
 pub answers-spec : {M : Type 1} → statement M
-answers-spec = tie.close (tie.spec returns returns-2 returns-3 returns-4 returns-5 returns-6)
+answers-spec =
+    tie.close (tie.spec returns returns-2 returns-3 returns-4 returns-5 returns-6 returns-7)

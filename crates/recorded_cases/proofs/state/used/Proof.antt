@@ -5,30 +5,25 @@ use Rattle.recorded_cases.proofs.state.used.Tie as tie
 use Rattle.recorded_cases.proofs.state.used.Reads as reads
 use Rattle.recorded_cases.proofs.state.used.Lts as lts
 
--- src/state.rt:126:9
 returns : tie.Need-returns
 unfolding used
 returns c = simp (eq-eqb _ _ (c .if1 .taken))
 
--- src/state.rt:129:9
 returns-2 : tie.Need-returns-2
 unfolding used
-returns-2 c = simp (ne-eqb _ _ (c .before .if1 .left), eq-eqb _ _ (c .if2 .taken))
+returns-2 c = simp (ne-eqb _ _ (c .before .if1 .left), c .if2 .taken)
 
--- src/state.rt:132:9
 returns-3 : tie.Need-returns-3
 unfolding used
-returns-3 c = simp (ne-eqb _ _ (c .before .before .if1 .left), ne-eqb _ _ (c .before .if2 .left), c .if3 .taken)
+returns-3 c = simp (ne-eqb _ _ (c .before .before .if1 .left), c .before .if2 .left, c .if3 .taken)
 
--- src/state.rt:135:9
 returns-4 : tie.Need-returns-4
 unfolding used
-returns-4 c = simp (ne-eqb _ _ (c .before .before .before .if1 .left), ne-eqb _ _ (c .before .before .if2 .left), c .before .if3 .left, c .if4 .taken)
+returns-4 c = simp (ne-eqb _ _ (c .before .before .before .if1 .left), c .before .before .if2 .left, c .before .if3 .left, c .if4 .taken)
 
--- src/state.rt:122:1
 returns-5 : tie.Need-returns-5
 unfolding used
-returns-5 c = simp (ne-eqb _ _ (c .before .before .before .if1 .left), ne-eqb _ _ (c .before .before .if2 .left), c .before .if3 .left, c .if4 .left)
+returns-5 c = simp (ne-eqb _ _ (c .before .before .before .if1 .left), c .before .before .if2 .left, c .before .if3 .left, c .if4 .left)
 
 pub used-spec : {M : Type 1} → statement M
 used-spec = tie.close (tie.spec returns returns-2 returns-3 returns-4 returns-5)

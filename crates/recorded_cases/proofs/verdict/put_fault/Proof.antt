@@ -151,6 +151,15 @@ slice-aggregate-put-16 c = search needs
 put-requires-16 : tie.Need-put-requires-16
 put-requires-16 c κs = search needs
 
+enum-told-17 : tie.Need-enum-told-17
+enum-told-17 c = search needs
+
+slice-aggregate-put-17 : tie.Need-slice-aggregate-put-17
+slice-aggregate-put-17 c = search needs
+
+put-requires-17 : tie.Need-put-requires-17
+put-requires-17 c κs = search needs
+
 same-length : tie.Need-same-length
 same-length c = search needs
 
@@ -263,6 +272,13 @@ returns-16 : tie.Need-returns-16
 unfolding faultText
 returns-16 c = (rw (c .before .before .before .before .before .enum-told16 .given .1) (c .before .before .put16 .ensures .0), (rw (c .before .before .before .before .before .enum-told16 .given .1) (c .before .before .put16 .ensures .1 .0), counts _ _ (omega arith)))
 
+same-length-17 : tie.Need-same-length-17
+same-length-17 c = search needs
+
+returns-17 : tie.Need-returns-17
+unfolding faultText
+returns-17 c = (rw (c .before .before .before .before .before .enum-told17 .given .1) (c .before .before .put17 .ensures .0), (rw (c .before .before .before .before .before .enum-told17 .given .1) (c .before .before .put17 .ensures .1 .0), counts _ _ (omega arith)))
+
 pub put-fault-spec : {M : Type 1} → statement M
 put-fault-spec =
     tie.close
@@ -315,6 +331,9 @@ put-fault-spec =
     enum-told-16
     slice-aggregate-put-16
     put-requires-16
+    enum-told-17
+    slice-aggregate-put-17
+    put-requires-17
     same-length
     returns
     same-length-2
@@ -346,4 +365,6 @@ put-fault-spec =
     same-length-15
     returns-15
     same-length-16
-    returns-16)
+    returns-16
+    same-length-17
+    returns-17)

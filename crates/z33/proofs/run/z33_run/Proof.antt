@@ -110,7 +110,7 @@ returns-2 c =
     let at-run-check = c .before .before in
     let start = from-run-check at-run-check in
     let a = start .args in let l = lent (a .cells .now) (a .queue .now) (a .output .now) (a .row .now) in
-    ap (λ (d : Done). called (record { refusal = d .refusal; place = d .place; stop = 0; detail = 0; steps = 0 }) l) (at-run-check .run-check .ensures) ∙ run-refused (a .budget) l (refused-by (at-run-check .run-check .ensures) (c .if1 .left))
+    ap (λ (d : Done). called (record { refusal = d .refusal; place = d .place; stop = 0; detail = 0; steps = 0; empty = 0 }) l) (at-run-check .run-check .ensures) ∙ run-refused (a .budget) l (refused-by (at-run-check .run-check .ensures) (c .if1 .left))
 
 pub z33-run-spec : {M : Type 1} → statement M
 z33-run-spec =
