@@ -5,9 +5,11 @@ use arguments::Arg;
 use definition::Cell;
 ghost use mathlib.Core.Path.{_≡_};
 ghost use mathlib.Core.Bool.{true, _&&_};
-ghost use Prim.Native.Nat.{_/_, _%_, _<_};
+ghost use Prim.Native.Nat.{_+_, _*_, _/_, _%_, _<_};
 ghost use lib.IntN.{pos};
+ghost use lib.ListN.{length};
 ghost use lib.Signed.{ltZ};
+ghost use Rattle.definition.specs.Memory.{cellAt};
 ghost use Rattle.definition.specs.Encoding.{legal, opNumber, mode₁, mode₂, decode, registerFits, numberFits, soundInstruction, soundAt, sound};
 ghost use Rattle.definition.specs.Calls.{lowestDamaged};
 ghost use Rattle.encoding.specs.Meaning.{instrOf};
@@ -154,6 +156,19 @@ pub fn is_sound(v: Cell) -> bool
     false
 }
 
+// The same of the cell at address n. A plain cell is tested in place: is_sound has several callers and stays out of line (docs/SPEED.md).
+fn sound_at(cells: &[i64], n: usize) -> bool
+    requires { ⌜ 3 * n + 2 < length (now cells) ⌝ }
+    ensures { λ r. ⌜ r ≡ sound (cellAt (now (cells .entry)) n) ⌝ }
+{
+    let i = 3 * n;
+    let t = cells[i];
+    if t < 2 {
+        return sound_plain(t, cells[i + 1], cells[i + 2]);
+    }
+    is_sound(memory::get_cell(cells, n))
+}
+
 // The lowest address of a damaged cell, or else the address past the last cell.
 pub fn lowest_damaged(cells: &[i64]) -> usize
     ensures { λ r. ⌜ r ≡ lowestDamaged 0 (now (cells .entry)) ⌝ }
@@ -161,7 +176,7 @@ pub fn lowest_damaged(cells: &[i64]) -> usize
     let count = cells.len() / 3;
     let mut n: usize = 0;
     while n < count {
-        if is_sound(memory::get_cell(cells, n)) {
+        if sound_at(cells, n) {
             n += 1;
         } else {
             return n;
