@@ -46,7 +46,7 @@ pub fn arg_exceeds(x: Arg) -> bool
 {
     let v = x.value;
     if x.mode == 3 {
-        return v.overflow | !encoding::is_address(v.value);
+        return v.overflow | !word::is_address(v.value);
     }
     has_value(x.mode) & v.overflow
 }

@@ -12,7 +12,7 @@ pub fn read_cell(cells: &[i64], address: u64) -> CellRead
 {
     let d = refusals::read_check(cells, address);
     if d.refusal == 0 {
-        let v = encoding::cell_at(cells, address as usize);
+        let v = memory::get_cell(cells, address as usize);
         return CellRead {
             refusal: 0,
             place: 0,

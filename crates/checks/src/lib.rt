@@ -86,7 +86,7 @@ pub fn address_at(row: &[i64], i: usize) -> bool
     ensures { λ r. ⌜ r ≡ isAddress (addressOf (getD (now (row .entry)) i (pos 0))) ⌝ }
 {
     let z = row[i];
-    encoding::is_address(z)
+    word::is_address(z)
 }
 
 pub fn sound_at(row: &[i64], i: usize) -> bool

@@ -142,13 +142,12 @@ pub fn run(cells: &mut [i64], queue: &[u8], output: &mut [u8], m: State, budget:
         let u = step(cells, queue, output, saved, t);
         let after = u.m;
         let s = after.s;
-        let sum = summed(empty, s.empties);
         t = uncounted(after);
         if u.completed {
+            empty = summed(empty, s.empties);
             if 0x4000_0000_0000_0000 <= t.cycles {
                 saved = t;
             }
-            empty = sum;
             steps += 1;
         } else {
             return Ended {

@@ -5,7 +5,7 @@ use mathlib.Core.List.{List, [], _∷_}
 use Prim.Native.Nat.{ℕ, zero, suc, _+_, _*_, _-_, _/_, _%_, _<_, _≤_}
 use native.Mathlib.Omega.{arith}
 use lib.IntN.{ℤ, pos, negsuc, natAbs}
-use lib.Signed.{ltZ, leZ, nonNeg}
+use lib.Signed.{ltZ, nonNeg}
 use lib.Dec.{T, eqb}
 use lib.ListN.{length, getD, drop}
 use lib.Seq.{drop-cons}
@@ -13,12 +13,10 @@ use mir.Syntax.{w32}
 use mir.Val.{Fits}
 use borrow.Author.Tests.{ltb-true, ltb-false, le-ltb, eqb-true}
 use Rattle.definition.specs.declared.Cell.{Cell}
-use Rattle.definition.specs.declared.Address.the-variants.{At, NotAddress}
-use Rattle.definition.specs.Word.{eqZ, addressOf}
+use Rattle.definition.specs.Word.{eqZ}
 use Rattle.definition.specs.Memory.{cellAt}
-use Rattle.definition.specs.Encoding.{legal, isAddress, soundInstruction, soundAt, sound}
+use Rattle.definition.specs.Encoding.{legal, soundInstruction, soundAt, sound}
 use Rattle.definition.specs.Calls.{lowestDamaged}
-use Rattle.word.proofs.Laws.{address-by as word-address-by}
 
 -- ---- a tag less 2: k is the table's place
 
@@ -37,14 +35,6 @@ pub registers : (t k r₁ : ℕ) → k ≡ t / 25 → r₁ ≡ (t - 25 * k) / 5 
 registers t k r₁ e f = (omega arith, omega arith)
 
 -- ---- soundness
-
-pub address-by : (w : ℤ) → (leZ (pos 0) w && leZ w (pos 4294967295)) ≡ isAddress (addressOf w)
-unfolding isAddress
-address-by w = by (leZ (pos 0) w && leZ w (pos 4294967295)) ∙ ap isAddress (word-address-by w refl)
-  where
-    by : (b : Bool) → b ≡ isAddress (cond b (At (natAbs w)) NotAddress)
-    by true = refl
-    by false = refl
 
 pub word-sound : (t f s : ℤ) → eqZ t (pos 1) ≡ true → eqZ s (pos 0) ≡ soundAt t f s
 unfolding soundAt

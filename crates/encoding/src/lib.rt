@@ -7,11 +7,10 @@ ghost use mathlib.Core.Path.{_≡_};
 ghost use mathlib.Core.Bool.{true, _&&_};
 ghost use Prim.Native.Nat.{_+_, _*_, _/_, _%_, _<_};
 ghost use lib.IntN.{pos};
-ghost use lib.Signed.{ltZ};
 ghost use lib.ListN.{length};
-ghost use Rattle.definition.specs.Word.{addressOf};
+ghost use lib.Signed.{ltZ};
 ghost use Rattle.definition.specs.Memory.{cellAt};
-ghost use Rattle.definition.specs.Encoding.{legal, opNumber, mode₁, mode₂, decode, registerFits, isAddress, numberFits, soundInstruction, soundAt, sound};
+ghost use Rattle.definition.specs.Encoding.{legal, opNumber, mode₁, mode₂, decode, registerFits, numberFits, soundInstruction, soundAt, sound};
 ghost use Rattle.definition.specs.Calls.{lowestDamaged};
 ghost use Rattle.encoding.specs.Meaning.{instrOf};
 
@@ -91,13 +90,6 @@ pub fn register_fits(m: u32, r: u32) -> bool
     (r == 0) | ((m == 2) | (4 <= m))
 }
 
-// "An address is a word 0 to 4,294,967,295."
-pub fn is_address(w: i64) -> bool
-    ensures { λ b. ⌜ b ≡ isAddress (addressOf w) ⌝ }
-{
-    (0 <= w) & (w <= 4294967295)
-}
-
 // "First and second hold the operands' numbers, 0 where the mode has none; a direct one is an address."
 pub fn number_fits(m: u32, w: i64) -> bool
     ensures { λ b. ⌜ b ≡ numberFits m w ⌝ }
@@ -105,7 +97,7 @@ pub fn number_fits(m: u32, w: i64) -> bool
     if word::eq(w, 0) | ((m == 1) | (m == 5)) {
         return true;
     }
-    (m == 3) & is_address(w)
+    (m == 3) & word::is_address(w)
 }
 
 // Do the registers, r = r1 * 5 + r2, and the numbers fit the modes? Both parts of r are only compared with 0, which takes no division.
@@ -164,16 +156,17 @@ pub fn is_sound(v: Cell) -> bool
     false
 }
 
-pub fn cell_at(cells: &[i64], n: usize) -> Cell
+// The same of the cell at address n. A plain cell is tested in place: is_sound has several callers and stays out of line (docs/SPEED.md).
+fn sound_at(cells: &[i64], n: usize) -> bool
     requires { ⌜ 3 * n + 2 < length (now cells) ⌝ }
-    ensures { λ r. ⌜ r ≡ cellAt (now (cells .entry)) n ⌝ }
+    ensures { λ r. ⌜ r ≡ sound (cellAt (now (cells .entry)) n) ⌝ }
 {
     let i = 3 * n;
-    Cell {
-        tag: cells[i],
-        first: cells[i + 1],
-        second: cells[i + 2],
+    let t = cells[i];
+    if t < 2 {
+        return sound_plain(t, cells[i + 1], cells[i + 2]);
     }
+    is_sound(memory::get_cell(cells, n))
 }
 
 // The lowest address of a damaged cell, or else the address past the last cell.
@@ -183,7 +176,7 @@ pub fn lowest_damaged(cells: &[i64]) -> usize
     let count = cells.len() / 3;
     let mut n: usize = 0;
     while n < count {
-        if is_sound(cell_at(cells, n)) {
+        if sound_at(cells, n) {
             n += 1;
         } else {
             return n;

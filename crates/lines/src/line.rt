@@ -42,7 +42,7 @@ pub fn take_start(r: Reader) -> Reader
     let l = r.last;
     let pc = l.y;
     let sp = l.z;
-    if encoding::is_address(pc) & encoding::is_address(sp) {
+    if word::is_address(pc) & word::is_address(sp) {
         let sr = value_of(f);
         let mut q = next_line(r);
         let s = Start { pc, sp, sr };

@@ -40,7 +40,7 @@ pub fn measure(image: &[i64], room: usize) -> Fit
     let mut n: usize = 0;
     let mut bytes: usize = 0;
     while n < count {
-        let k = put_line(&mut line, encoding::cell_at(image, n));
+        let k = put_line(&mut line, memory::get_cell(image, n));
         if room - bytes < k {
             return Fit {
                 fits: false,
@@ -62,7 +62,7 @@ pub fn write(image: &[i64], text: &mut [u8])
     let mut n: usize = 0;
     let mut at: usize = 0;
     while n < count {
-        let k = put_line(&mut line, encoding::cell_at(image, n));
+        let k = put_line(&mut line, memory::get_cell(image, n));
         at = printing::put(text, at, &line[..k]);
         n += 1;
     }

@@ -101,7 +101,7 @@ pub fn own_sound(cells: &[i64], n: u64) -> bool
     ensures { λ r. ⌜ r ≡ (sound (cellAt (now (cells .entry)) n) || leb (cellCount (now (cells .entry))) n) ⌝ }
 {
     if (n as usize) < cells.len() / 3 {
-        encoding::is_sound(encoding::cell_at(cells, n as usize))
+        encoding::is_sound(memory::get_cell(cells, n as usize))
     } else {
         true
     }
@@ -156,7 +156,7 @@ pub fn load_check(cells: &[i64], image: &[i64], start: u64) -> Done
 pub fn register_fits(r: u64, w: i64) -> bool
     ensures { λ b. ⌜ b ≡ isSettable r w ⌝ }
 {
-    (r < 2) | ((r < 4) & encoding::is_address(w))
+    (r < 2) | ((r < 4) & word::is_address(w))
 }
 
 pub fn set_register_check(row: &[i64], r: u64, w: i64) -> Done

@@ -5,18 +5,20 @@ use Prim.Native.Nat.{ℕ, zero, suc, _+_, _-_, _*_, _/_, _%_, _^_, _<_, _≤_, m
 use native.Mathlib.Omega.{arith}
 use native.Mathlib.Nat.{pow-suc, one-mul, zero-mul, add-mul, mul-add, mul-assoc, mul-comm, mul-sub, mul-le-mul-left, mul-le-mul-right, le-of-lt, lt-of-le-of-lt, lt-of-lt-of-le, div-le-self, div-lt-iff-lt-mul, le-div-iff-mul-le, div-add-mod', mod-lt}
 use lib.IntN.{ℤ, pos, negsuc, natAbs, subℕ, _+ℤ_, _-ℤ_, _*ℤ_, negℤ}
-use lib.Dec.{T, ltb, eqb, leb·zero}
+use lib.Dec.{T, ltb, leb, eqb, leb·zero}
 use lib.Signed.{mag, ltZ, leZ, nonNeg, quotZ, shrZ, mag-shr}
 use lib.Bits.{bitAnd, bitOr, and-step, and-zero-l, and-mask, or-zero-r}
 use lib.Pow.{pow-pos, pow-lt, pow-mono, shl-exact}
 use mir.Syntax.{w32, w64}
 use mir.Val.{ofZ, toZ, SFits, Fits, boolByte}
 use mir.Facts.{toZ-ofZ, toZ-pos, toZ-neg, sfits-lit}
-use borrow.Author.Tests.{ltb-true, ltb-false, leb-true, eqb-true, eqb-false, lt-ltb, le-ltb, eq-eqb, ne-eqb}
+use borrow.Author.Tests.{ltb-true, ltb-false, eqb-true, eqb-false, lt-ltb, le-ltb, eq-eqb, ne-eqb}
 use Rattle.definition.specs.Word.{bits, wrap, isWord, eqZ, addressOf, smallest, notW, digit}
+use Rattle.definition.specs.Encoding.{isAddress}
 use Rattle.definition.specs.declared.Address.the-variants.{At, NotAddress}
 use Rattle.definition.proofs.Bits.{bits-ofZ, put, put-here, and-bit, or-bit}
 use Rattle.definition.proofs.Words.{is-word}
+use Rattle.definition.proofs.Row.{address-in}
 
 -- ---- cases of a test, of a difference, of bits
 
@@ -270,13 +272,26 @@ quot-fits (negsuc a) (negsuc (suc b)) f h = record { sfits = quot-lt (suc a) (su
 
 -- ---- addresses
 
-pub address-cast : (w : ℤ) → (leZ (pos 0) w && leZ w (pos 4294967295)) ≡ true → T (nonNeg w) × Fits w32 (natAbs w)
-address-cast (pos n) h = (tt, omega (arith, leb-true n 4294967295 (rw (leb·zero n) at h)))
-address-cast (negsuc n) h = absurd (true≢false (sym h))
+pub is-address : (w : ℤ) → (leZ (pos 0) w && leZ w (pos 4294967295)) ≡ isAddress (addressOf w)
+unfolding addressOf isAddress
+is-address (pos n) = rw (leb·zero n) (by (leb n 4294967295))
+  where
+    by : (b : Bool) → b ≡ isAddress (cond b (At n) NotAddress)
+    by true = refl
+    by false = refl
+is-address (negsuc n) = refl
 
-pub address-by : (w : ℤ) {t : Bool} → (leZ (pos 0) w && leZ w (pos 4294967295)) ≡ t → cond t (At (natAbs w)) NotAddress ≡ addressOf w
-unfolding addressOf
-address-by (pos n) e = rw (← e, leb·zero n)
+pub address-cast : (w : ℤ) → isAddress (addressOf w) ≡ true → T (nonNeg w) × Fits w32 (natAbs w)
+address-cast (pos n) h = (tt, omega (arith, address-in (pos n) h .1))
+address-cast (negsuc n) h = absurd (true≢false (sym (is-address (negsuc n) ∙ h)))
+
+pub address-by : (w : ℤ) {t : Bool} → isAddress (addressOf w) ≡ t → cond t (At (natAbs w)) NotAddress ≡ addressOf w
+unfolding addressOf isAddress
+address-by (pos n) e = by (leb n 4294967295) e
+  where
+    by : {t : Bool} (b : Bool) → isAddress (cond b (At n) NotAddress) ≡ t → cond t (At n) NotAddress ≡ cond b (At n) NotAddress
+    by true e = rw (← e)
+    by false e = rw (← e)
 address-by (negsuc n) e = rw (← e)
 
 -- ---- single bits

@@ -10,6 +10,7 @@ ghost use lib.Dec.{ltb};
 ghost use mir.Syntax.{w64};
 ghost use mir.Val.{toZ};
 ghost use Rattle.definition.specs.Word.{bits, wrapped, eqZ, addressOf, quotient, isShift, shlW, shrW, andW, orW, xorW, notW, bit, putBit, lowByte};
+ghost use Rattle.definition.specs.Encoding.{isAddress};
 ghost use Rattle.definition.specs.Total.{total};
 
 // The word's bits: two's complement.
@@ -191,10 +192,16 @@ pub fn lt(a: i64, b: i64) -> bool
 }
 
 // "An address is a word 0 to 4,294,967,295."
+pub fn is_address(w: i64) -> bool
+    ensures { λ r. ⌜ r ≡ isAddress (addressOf w) ⌝ }
+{
+    (0 <= w) & (w <= 4294967295)
+}
+
 pub fn to_address(w: i64) -> Address
     ensures { λ r. ⌜ r ≡ addressOf w ⌝ }
 {
-    if (0 <= w) & (w <= 4294967295) {
+    if is_address(w) {
         Address::At(w as u32)
     } else {
         Address::NotAddress

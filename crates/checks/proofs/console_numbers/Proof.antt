@@ -51,22 +51,37 @@ check-requires-5 : tie.Need-check-requires-5
 check-requires-5 c κs = search needs
 
 is-mark-at-requires-3 : tie.Need-is-mark-at-requires-3
-is-mark-at-requires-3 c κs = omega (arith, c .before .before .before .before .before .before .before .before .before .before .before .pre .0)
+is-mark-at-requires-3 c κs =
+    let start = c .before .before .before .before .before .before .before .before .before .before .before in
+    omega (arith, start .pre .0)
 
 check-requires-6 : tie.Need-check-requires-6
 check-requires-6 c κs = search needs
 
 returns : tie.Need-returns
 unfolding rowTests
-returns c = let a = c .before .before .before .before .before .before .before .before .before .before .before .before .before .args in
+returns c =
+    let at-check5 = c .before .before in
+    let at-is-mark-at2 = at-check5 .before in
+    let at-check4 = at-is-mark-at2 .before in
+    let at-is-mark-at = at-check4 .before in
+    let at-check3 = at-is-mark-at .before in
+    let at-below-at3 = at-check3 .before in
+    let at-check2 = at-below-at3 .before in
+    let at-below-at2 = at-check2 .before in
+    let at-check = at-below-at2 .before in
+    let at-accept = at-check .before in
+    let at-below-at = at-accept .before in
+    let start = at-below-at .before in
+    let a = start .args in
     let all = rowTests (a .q) (a .o) (a .row .now) in
     check-on 4 ROW-ENABLE (drop 7 all) (c .check6 .ensures) (c .before .is-mark-at3 .ensures)
-    (check-on 4 ROW-FLAG (drop 8 all) (c .before .before .check5 .ensures) (c .before .before .before .is-mark-at2 .ensures)
-    (check-on 4 ROW-PENDING (drop 9 all) (c .before .before .before .before .check4 .ensures) (c .before .before .before .before .before .is-mark-at .ensures)
-    (check-on 4 ROW-START (drop 10 all) (c .before .before .before .before .before .before .check3 .ensures) (c .before .before .before .before .before .before .before .below-at3 .ensures)
-    (check-on 4 ROW-COUNT (drop 11 all) (c .before .before .before .before .before .before .before .before .check2 .ensures) (c .before .before .before .before .before .before .before .before .before .below-at2 .ensures ∙ ap (λ (n : ℕ). isBelow n (at ROW-COUNT (a .row .now))) (add-one (a .q)))
-    (check-on 4 ROW-WRITTEN [] (c .before .before .before .before .before .before .before .before .before .before .check .ensures) (c .before .before .before .before .before .before .before .before .before .before .before .before .below-at .ensures ∙ ap (λ (n : ℕ). isBelow n (at ROW-WRITTEN (a .row .now))) (add-one (a .o)))
-    (accept-by (c .before .before .before .before .before .before .before .before .before .before .before .accept .ensures)))))))
+    (check-on 4 ROW-FLAG (drop 8 all) (at-check5 .check5 .ensures) (at-is-mark-at2 .is-mark-at2 .ensures)
+    (check-on 4 ROW-PENDING (drop 9 all) (at-check4 .check4 .ensures) (at-is-mark-at .is-mark-at .ensures)
+    (check-on 4 ROW-START (drop 10 all) (at-check3 .check3 .ensures) (at-below-at3 .below-at3 .ensures)
+    (check-on 4 ROW-COUNT (drop 11 all) (at-check2 .check2 .ensures) (at-below-at2 .below-at2 .ensures ∙ ap (λ (n : ℕ). isBelow n (at ROW-COUNT (a .row .now))) (add-one (a .q)))
+    (check-on 4 ROW-WRITTEN [] (at-check .check .ensures) (at-below-at .below-at .ensures ∙ ap (λ (n : ℕ). isBelow n (at ROW-WRITTEN (a .row .now))) (add-one (a .o)))
+    (accept-by (at-accept .accept .ensures)))))))
 
 pub console-numbers-spec : {M : Type 1} → statement M
 console-numbers-spec =

@@ -32,14 +32,26 @@ check-requires-4 : tie.Need-check-requires-4
 check-requires-4 c κs = search needs
 
 sound-at-requires-2 : tie.Need-sound-at-requires-2
-sound-at-requires-2 c κs = omega (arith, c .before .before .before .before .before .before .before .before .before .pre .0)
+sound-at-requires-2 c κs =
+    let start = c .before .before .before .before .before .before .before .before .before in
+    omega (arith, start .pre .0)
 
 check-requires-5 : tie.Need-check-requires-5
 check-requires-5 c κs = search needs
 
 returns : tie.Need-returns
 unfolding verdict rowTests
-returns c = rw (c .check5 .ensures, c .before .sound-at2 .ensures, c .before .before .check4 .ensures, c .before .before .before .sound-at .ensures, c .before .before .before .before .check3 .ensures, c .before .before .before .before .before .address-at2 .ensures, c .before .before .before .before .before .before .check2 .ensures, c .before .before .before .before .before .before .before .address-at .ensures, c .before .before .before .before .before .before .before .before .check .ensures, c .before .before .before .before .before .before .before .before .before .before .below-at .ensures, c .before .before .before .before .before .before .before .before .before .console-numbers .ensures)
+returns c =
+    let at-check4 = c .before .before in
+    let at-sound-at = at-check4 .before in
+    let at-check3 = at-sound-at .before in
+    let at-address-at2 = at-check3 .before in
+    let at-check2 = at-address-at2 .before in
+    let at-address-at = at-check2 .before in
+    let at-check = at-address-at .before in
+    let at-console-numbers = at-check .before in
+    let at-below-at = at-console-numbers .before in
+    rw (c .check5 .ensures, c .before .sound-at2 .ensures, at-check4 .check4 .ensures, at-sound-at .sound-at .ensures, at-check3 .check3 .ensures, at-address-at2 .address-at2 .ensures, at-check2 .check2 .ensures, at-address-at .address-at .ensures, at-check .check .ensures, at-below-at .below-at .ensures, at-console-numbers .console-numbers .ensures)
 
 pub row-numbers-spec : {M : Type 1} → statement M
 row-numbers-spec =

@@ -35,14 +35,14 @@ step-requires c κs =
     let at-loop = c .before .before .before in
     let i = at-loop .loop .inv .1 .1 .1 in (i .0, i .1 .1 .0)
 
-summed-requires : tie.Need-summed-requires Inv-loop μ-loop
-summed-requires c κs = search needs
-
 uncounted-requires : tie.Need-uncounted-requires Inv-loop μ-loop
 uncounted-requires c κs = search needs
 
+summed-requires : tie.Need-summed-requires Inv-loop μ-loop
+summed-requires c κs = search needs
+
 abbrev from-then1 : tie.Then1 Inv-loop μ-loop → tie.After-step Inv-loop μ-loop
-from-then1 c = c .before .before .before .before .before .before .before .before
+from-then1 c = c .before .before .before .before .before .before .before
 
 abbrev from-step : tie.After-step Inv-loop μ-loop → tie.In-loop Inv-loop μ-loop
 from-step c = c .before .before .before
@@ -52,18 +52,18 @@ from-at-loop c = c .before .before .before
 
 add-steps : tie.Need-add-steps Inv-loop μ-loop
 add-steps c =
-    let in-loop = from-step (from-then1 (c .before .before)) in
+    let in-loop = from-step (from-then1 (c .before .before .before)) in
     let start = from-at-loop (in-loop .before) in
     let b = start .fits .budget in let h = in-loop .loop-test .taken in omega arith
 
 loop-less : tie.Need-loop-less Inv-loop μ-loop
-loop-less c = let in-loop = from-step (from-then1 (c .before .before)) in let h = in-loop .loop-test .taken in omega arith
+loop-less c = let in-loop = from-step (from-then1 (c .before .before .before)) in let h = in-loop .loop-test .taken in omega arith
 
 loop-again : tie.Need-loop-again Inv-loop μ-loop
 loop-again c =
-    let then1 = c .before .before in
+    let su = c .before .before .summed in
+    let then1 = c .before .before .before in
     let un = then1 .before .uncounted in
-    let su = then1 .before .before .summed in
     let at-step = from-then1 then1 in
     let in-loop = from-step at-step in
     let at-loop = in-loop .before in
@@ -74,19 +74,19 @@ loop-again c =
 
 same-length : tie.Need-same-length Inv-loop μ-loop
 same-length c =
-    let at-step = c .before .before .before .before .before .before .before .before in
+    let at-step = c .before .before .before .before .before .before .before in
     let at-loop = (from-step at-step) .before in
     at-step .step .kept .0 ∙ at-loop .loop .inv .1 .0
 
 same-length-2 : tie.Need-same-length-2 Inv-loop μ-loop
 same-length-2 c =
-    let at-step = c .before .before .before .before .before .before .before .before in
+    let at-step = c .before .before .before .before .before .before .before in
     let at-loop = (from-step at-step) .before in
     at-step .step .kept .1 .1 .0 ∙ at-loop .loop .inv .1 .1 .0
 
 returns : tie.Need-returns Inv-loop μ-loop
 returns c =
-    let at-step = c .before .before .before .before .before .before .before .before in
+    let at-step = c .before .before .before .before .before .before .before in
     let in-loop = from-step at-step in
     let at-loop = in-loop .before in
     let start = from-at-loop at-loop in
@@ -114,8 +114,8 @@ run-spec =
     μ-loop
     loop-holds
     step-requires
-    summed-requires
     uncounted-requires
+    summed-requires
     add-steps
     loop-less
     loop-again

@@ -39,16 +39,19 @@ fifth-requires : tie.Need-fifth-requires
 fifth-requires c κs = search needs
 
 cost-of-requires : tie.Need-cost-of-requires
-cost-of-requires c κs = let s = c .before .before .before .before in
-    let p = c .before .before .before .place in
-    let o = c .before .before .op-of in
-    let t = s .args .t in
-    let h = s .pre .0 in
+cost-of-requires c κs =
+    let at-op-of = c .before .before in
+    let at-place = at-op-of .before in
+    let start = at-place .before in
+    let p = at-place .place in
+    let o = at-op-of .op-of in
+    let t = start .args .t in
+    let h = start .pre .0 in
     let op : o .result ≡ t / 900 = omega arith in
     let m = modes t _ _ _ (p .ensures) (o .ensures) (c .before .sixth .ensures) in
     let m₁ = m .0 in
     let m₂ = m .1 in
-    (omega arith, (omega arith, (omega arith, rw (m₂, op, m₁) (s .pre .1))))
+    (omega arith, (omega arith, (omega arith, rw (m₂, op, m₁) (start .pre .1))))
 
 mul-t11 : tie.Need-mul-t11
 mul-t11 c = search needs
@@ -58,14 +61,18 @@ sub-t14 c = search needs
 
 returns : tie.Need-returns
 unfolding decode
-returns c = let s = c .before .before .before .before .before in
-    let p = c .before .before .before .before .place in
-    let o = c .before .before .before .op-of in
-    let t = s .args .t in
+returns c =
+    let at-sixth = c .before .before in
+    let at-op-of = at-sixth .before in
+    let at-place = at-op-of .before in
+    let start = at-place .before in
+    let p = at-place .place in
+    let o = at-op-of .op-of in
+    let t = start .args .t in
     let op : o .result ≡ t / 900 = omega arith in
-    let m = modes t _ _ _ (p .ensures) (o .ensures) (c .before .before .sixth .ensures) in
+    let m = modes t _ _ _ (p .ensures) (o .ensures) (at-sixth .sixth .ensures) in
     let r = registers t _ _ (p .ensures) (c .before .fifth .ensures) in
-    (rw (toZ-ofZ (s .fits .first), toZ-ofZ (s .fits .second), c .cost-of .ensures, m .1, r .1, op, m .0, r .0), (let h = s .pre .0 in omega arith))
+    (rw (toZ-ofZ (start .fits .first), toZ-ofZ (start .fits .second), c .cost-of .ensures, m .1, r .1, op, m .0, r .0), (let h = start .pre .0 in omega arith))
 
 pub decode-spec : {M : Type 1} → statement M
 decode-spec =

@@ -1,4 +1,4 @@
-use mathlib.Core.Path.{_≡_, _∙_, refl, sym, ap}
+use mathlib.Core.Path.{_≡_, _∙_, refl, sym}
 use mathlib.Core.Bool.{true, false}
 use Prim.Native.Nat.{_*_, _-_, _<_, _≤_}
 use native.Mathlib.Omega.{arith}
@@ -21,11 +21,8 @@ abbrev μ-loop : tie.MeasureT-loop
 loop-holds : tie.Need-loop-holds Inv-loop μ-loop
 loop-holds c = (search needs, refl)
 
-cell-at-requires : tie.Need-cell-at-requires Inv-loop μ-loop
-cell-at-requires c κs = search needs
-
-is-sound-requires : tie.Need-is-sound-requires Inv-loop μ-loop
-is-sound-requires c κs = search needs
+sound-at-requires : tie.Need-sound-at-requires Inv-loop μ-loop
+sound-at-requires c κs = search needs
 
 add-n : tie.Need-add-n Inv-loop μ-loop
 add-n c = search needs
@@ -34,16 +31,16 @@ loop-less : tie.Need-loop-less Inv-loop μ-loop
 loop-less c = search needs
 
 loop-again : tie.Need-loop-again Inv-loop μ-loop
-loop-again c = let l = c .before .before .before .before .before .args .cells .now in
-    let n = c .before .before .before .before .loop .n in
-    let e : sound (cellAt l n) ≡ true = ap sound (sym (c .before .before .cell-at .ensures)) ∙ sym (c .before .is-sound .ensures) ∙ c .if1 .taken in
-    (search needs, rw add-one (damaged-later n l (omega arith) e ∙ c .before .before .before .before .loop .inv .1))
+loop-again c = let l = c .before .before .before .before .args .cells .now in
+    let n = c .before .before .before .loop .n in
+    let e : sound (cellAt l n) ≡ true = sym (c .before .sound-at .ensures) ∙ c .if1 .taken in
+    (search needs, rw add-one (damaged-later n l (omega arith) e ∙ c .before .before .before .loop .inv .1))
 
 returns : tie.Need-returns Inv-loop μ-loop
-returns c = let l = c .before .before .before .before .before .args .cells .now in
-    let n = c .before .before .before .before .loop .n in
-    let e : sound (cellAt l n) ≡ false = ap sound (sym (c .before .before .cell-at .ensures)) ∙ sym (c .before .is-sound .ensures) ∙ c .if1 .left in
-    damaged-here n l (omega arith) e ∙ c .before .before .before .before .loop .inv .1
+returns c = let l = c .before .before .before .before .args .cells .now in
+    let n = c .before .before .before .loop .n in
+    let e : sound (cellAt l n) ≡ false = sym (c .before .sound-at .ensures) ∙ c .if1 .left in
+    damaged-here n l (omega arith) e ∙ c .before .before .before .loop .inv .1
 
 returns-2 : tie.Need-returns-2 Inv-loop μ-loop
 returns-2 c = let l = c .before .before .args .cells .now in
@@ -58,8 +55,7 @@ lowest-damaged-spec =
     Inv-loop
     μ-loop
     loop-holds
-    cell-at-requires
-    is-sound-requires
+    sound-at-requires
     add-n
     loop-less
     loop-again

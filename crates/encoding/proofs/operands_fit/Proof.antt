@@ -17,17 +17,28 @@ number-fits-requires-2 : tie.Need-number-fits-requires-2
 number-fits-requires-2 c κs = search needs
 
 returns : tie.Need-returns
-returns c = let s = c .before .before .before .before .before .before .before in
-    let e₁ = sym (c .before .before .before .before .before .before .register-fits .ensures) ∙ c .before .before .before .before .before .if1 .taken in
-    let e₂ = sym (c .before .before .before .before .register-fits2 .ensures) ∙ c .before .before .before .if2 .taken in
-    let e₃ = sym (rw (toZ-ofZ (s .fits .first)) at (c .before .before .number-fits .ensures)) ∙ c .before .if3 .taken in
-    rw (e₁, e₂, e₃) (rw (toZ-ofZ (s .fits .second)) at (c .number-fits2 .ensures))
+returns c =
+    let at-number-fits = c .before .before in
+    let then2 = at-number-fits .before in
+    let at-register-fits2 = then2 .before in
+    let then1 = at-register-fits2 .before in
+    let at-register-fits = then1 .before in
+    let start = at-register-fits .before in
+    let e₁ = sym (at-register-fits .register-fits .ensures) ∙ then1 .if1 .taken in
+    let e₂ = sym (at-register-fits2 .register-fits2 .ensures) ∙ then2 .if2 .taken in
+    let e₃ = sym (rw (toZ-ofZ (start .fits .first)) at (at-number-fits .number-fits .ensures)) ∙ c .before .if3 .taken in
+    rw (e₁, e₂, e₃) (rw (toZ-ofZ (start .fits .second)) at (c .number-fits2 .ensures))
 
 returns-2 : tie.Need-returns-2
-returns-2 c = let s = c .before .before .before .before .before .before in
-    let e₁ = sym (c .before .before .before .before .before .register-fits .ensures) ∙ c .before .before .before .before .if1 .taken in
-    let e₂ = sym (c .before .before .before .register-fits2 .ensures) ∙ c .before .before .if2 .taken in
-    let e₃ = sym (rw (toZ-ofZ (s .fits .first)) at (c .before .number-fits .ensures)) ∙ c .if3 .left in
+returns-2 c =
+    let then2 = c .before .before in
+    let at-register-fits2 = then2 .before in
+    let then1 = at-register-fits2 .before in
+    let at-register-fits = then1 .before in
+    let start = at-register-fits .before in
+    let e₁ = sym (at-register-fits .register-fits .ensures) ∙ then1 .if1 .taken in
+    let e₂ = sym (at-register-fits2 .register-fits2 .ensures) ∙ then2 .if2 .taken in
+    let e₃ = sym (rw (toZ-ofZ (start .fits .first)) at (c .before .number-fits .ensures)) ∙ c .if3 .left in
     rw (e₁, e₂, e₃)
 
 returns-3 : tie.Need-returns-3

@@ -43,24 +43,34 @@ operands-fit-requires c κs = search needs
 
 returns : tie.Need-returns
 unfolding soundInstruction
-returns c = let s = c .before .before .before .before .before .before in
-    let p = c .before .before .before .before .before .place in
-    let o = c .before .before .before .before .op-of in
-    let t = s .args .t in
+returns c =
+    let at-is-legal = c .before .before in
+    let at-sixth = at-is-legal .before in
+    let at-op-of = at-sixth .before in
+    let at-place = at-op-of .before in
+    let start = at-place .before in
+    let p = at-place .place in
+    let o = at-op-of .op-of in
+    let t = start .args .t in
     let op : o .result ≡ t / 900 = omega arith in
-    let m = modes t _ _ _ (p .ensures) (o .ensures) (c .before .before .before .sixth .ensures) in
+    let m = modes t _ _ _ (p .ensures) (o .ensures) (at-sixth .sixth .ensures) in
     let reg₁ : (t - 25 * p .result) / 5 ≡ t / 5 % 5 = omega arith in
     let reg₂ : (t - 25 * p .result) % 5 ≡ t % 5 = omega arith in
-    rw (rw (m .1, op, m .0) at (sym (c .before .before .is-legal .ensures) ∙ c .before .if1 .taken))
-    (rw (toZ-ofZ (s .fits .first), toZ-ofZ (s .fits .second), m .1, m .0, reg₁, reg₂) at (c .operands-fit .ensures))
+    rw (rw (m .1, op, m .0) at (sym (at-is-legal .is-legal .ensures) ∙ c .before .if1 .taken))
+    (rw (toZ-ofZ (start .fits .first), toZ-ofZ (start .fits .second), m .1, m .0, reg₁, reg₂) at (c .operands-fit .ensures))
 
 returns-2 : tie.Need-returns-2
 unfolding soundInstruction
-returns-2 c = let p = c .before .before .before .before .place in
-    let o = c .before .before .before .op-of in
-    let t = c .before .before .before .before .before .args .t in
+returns-2 c =
+    let at-sixth = c .before .before in
+    let at-op-of = at-sixth .before in
+    let at-place = at-op-of .before in
+    let start = at-place .before in
+    let p = at-place .place in
+    let o = at-op-of .op-of in
+    let t = start .args .t in
     let op : o .result ≡ t / 900 = omega arith in
-    let m = modes t _ _ _ (p .ensures) (o .ensures) (c .before .before .sixth .ensures) in
+    let m = modes t _ _ _ (p .ensures) (o .ensures) (at-sixth .sixth .ensures) in
     rw (rw (m .1, op, m .0) at (sym (c .before .is-legal .ensures) ∙ c .if1 .left))
 
 pub sound-instruction-spec : {M : Type 1} → statement M

@@ -26,10 +26,14 @@ eq-requires-5 : tie.Need-eq-requires-5
 eq-requires-5 c κs = search needs
 
 returns-2 : tie.Need-returns-2
-returns-2 c = let b = c .before .before .before .before .before in
-    let f = toZ-ofZ (b .fits .t) in
-    let h = rw f at (sym (c .before .before .before .before .eq .ensures) ∙ c .before .before .before .if1 .left) in
-    rw (c .eq5 .ensures, c .before .eq4 .ensures, c .before .before .eq3 .ensures, f, toZ-ofZ (b .fits .f), toZ-ofZ (b .fits .s)) (empty-sound (b .args .t) (b .args .f) (b .args .s) (b .pre) h)
+returns-2 c =
+    let at-eq3 = c .before .before in
+    let else1 = at-eq3 .before in
+    let at-eq = else1 .before in
+    let start = at-eq .before in
+    let f = toZ-ofZ (start .fits .t) in
+    let h = rw f at (sym (at-eq .eq .ensures) ∙ else1 .if1 .left) in
+    rw (c .eq5 .ensures, c .before .eq4 .ensures, at-eq3 .eq3 .ensures, f, toZ-ofZ (start .fits .f), toZ-ofZ (start .fits .s)) (empty-sound (start .args .t) (start .args .f) (start .args .s) (start .pre) h)
 
 pub sound-plain-spec : {M : Type 1} → statement M
 sound-plain-spec =

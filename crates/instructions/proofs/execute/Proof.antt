@@ -283,10 +283,16 @@ unfolding execute opAt
 returns-24 c = let start = c .before .before .before in let a = start .args in arm-none (a .x) (a .y) (a .cells .now) (a .s) (a .op) 32 (c .before .before .match .keys24) _ refl (start .pre .0) (c .before .xor .result) (c .with-none19 .ensures) (c .before .xor .ensures)
 
 returns-25 : tie.Need-returns-25
-returns-25 c = let k = c .before .before .before .before .before in let a = k .before .args in let l = a .cells .now in let m = core l (a .s) in let o = a .op in
-    let j = jumps-left o (k .before .pre .1 .1) (k .before .pre .1 .0) (k .match .rest) in
-    let e = c .before .before .is-taken .ensures ∙ ap₂ (testAt o) (c .before .before .before .before .zero .ensures) (c .before .before .before .negative .ensures) in
-    quiet-none l m _ (k .before .pre .0) (c .before .jump-if .result) (c .with-none20 .ensures) (c .before .jump-if .ensures ∙ branch-is (jump (argOf (a .x))) (return tt) m (sym e)) ∙ jump-op (argOf (a .x)) (argOf (a .y)) (regAt (a .x .reg)) (regAt (a .y .reg)) l (a .s) o (j .0) (j .1)
+returns-25 c =
+    let at-is-taken = c .before .before in
+    let at-negative = at-is-taken .before in
+    let at-zero = at-negative .before in
+    let at-match = at-zero .before in
+    let start = at-match .before in
+    let a = start .args in let l = a .cells .now in let m = core l (a .s) in let o = a .op in
+    let j = jumps-left o (start .pre .1 .1) (start .pre .1 .0) (at-match .match .rest) in
+    let e = at-is-taken .is-taken .ensures ∙ ap₂ (testAt o) (at-zero .zero .ensures) (at-negative .negative .ensures) in
+    quiet-none l m _ (start .pre .0) (c .before .jump-if .result) (c .with-none20 .ensures) (c .before .jump-if .ensures ∙ branch-is (jump (argOf (a .x))) (return tt) m (sym e)) ∙ jump-op (argOf (a .x)) (argOf (a .y)) (regAt (a .x .reg)) (regAt (a .y .reg)) l (a .s) o (j .0) (j .1)
 
 pub execute-spec : {M : Type 1} → statement M
 execute-spec =

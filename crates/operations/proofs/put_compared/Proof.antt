@@ -32,7 +32,12 @@ accept-requires c κs = search needs
 
 returns : tie.Need-returns
 unfolding putCompared
-returns c = let f = toZ-ofZ (c .before .before .before .before .before .fits .v) in let g = toZ-ofZ (c .before .before .before .before .before .fits .w) in let s = c .before .before .before .before .before .args .s in c .accept .ensures ∙ ap (λ (t : Registers). settled s (assigned t)) (c .before .put-flag2 .ensures ∙ ap₂ (λ (b : Bool) (t : Registers). putFlag 2 b t) (rw (f, g) at (c .before .before .lt .ensures)) (c .before .before .before .put-flag .ensures ∙ ap (λ (b : Bool). putFlag 1 b s) (rw (f, g) at (c .before .before .before .before .eq .ensures))))
+returns c =
+    let at-lt = c .before .before in
+    let at-put-flag = at-lt .before in
+    let at-eq = at-put-flag .before in
+    let start = at-eq .before in
+    let f = toZ-ofZ (start .fits .v) in let g = toZ-ofZ (start .fits .w) in let s = start .args .s in c .accept .ensures ∙ ap (λ (t : Registers). settled s (assigned t)) (c .before .put-flag2 .ensures ∙ ap₂ (λ (b : Bool) (t : Registers). putFlag 2 b t) (rw (f, g) at (at-lt .lt .ensures)) (at-put-flag .put-flag .ensures ∙ ap (λ (b : Bool). putFlag 1 b s) (rw (f, g) at (at-eq .eq .ensures))))
 
 pub put-compared-spec : {M : Type 1} → statement M
 put-compared-spec =

@@ -26,7 +26,10 @@ refuse-requires c κs = search needs
 
 returns : tie.Need-returns
 unfolding putQuotient
-returns c = let a = c .before .before .before .before .args in rw (back (c .before .before .x .given .0 .0) (c .before .known-told .given .0 .1)) at (c .put-result .ensures) ∙ ap (λ (x : Quotient). settled (a .s) (putQuotient (regAt (a .r)) x (a .s))) (sym (c .before .before .x .given .1))
+returns c =
+    let at-x = c .before .before in
+    let start = at-x .before .before in
+    let a = start .args in rw (back (at-x .x .given .0 .0) (c .before .known-told .given .0 .1)) at (c .put-result .ensures) ∙ ap (λ (x : Quotient). settled (a .s) (putQuotient (regAt (a .r)) x (a .s))) (sym (at-x .x .given .1))
 
 returns-2 : tie.Need-returns-2
 unfolding putQuotient

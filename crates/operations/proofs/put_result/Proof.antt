@@ -30,15 +30,24 @@ accept-requires c κs = search needs
 
 returns : tie.Need-returns
 unfolding putResult
-returns c = let a = c .before .before .before .before .before .before .args in let f = toZ-ofZ (c .before .before .before .before .before .before .fits .w) in
-    let e = c .before .before .before .before .put-reg .ensures ∙ ap (λ (v : Cell). settled (a .s) (putReg (regAt (a .r)) v (a .s))) (rw f at (c .before .before .before .before .before .word-cell .ensures)) in
-    c .accept .ensures ∙ ap (λ (t : Registers). settled (a .s) (assigned t)) (rw f at (c .before .sign-flags .ensures)) ∙ flags-yes (signFlags (a .w)) (a .s) (c .before .before .before .before .put-reg .result) _ e (c .before .before .if1 .taken)
+returns c =
+    let then1 = c .before .before in
+    let at-put-reg = then1 .before .before in
+    let at-word-cell = at-put-reg .before in
+    let start = at-word-cell .before in
+    let a = start .args in let f = toZ-ofZ (start .fits .w) in
+    let e = at-put-reg .put-reg .ensures ∙ ap (λ (v : Cell). settled (a .s) (putReg (regAt (a .r)) v (a .s))) (rw f at (at-word-cell .word-cell .ensures)) in
+    c .accept .ensures ∙ ap (λ (t : Registers). settled (a .s) (assigned t)) (rw f at (c .before .sign-flags .ensures)) ∙ flags-yes (signFlags (a .w)) (a .s) (at-put-reg .put-reg .result) _ e (then1 .if1 .taken)
 
 returns-2 : tie.Need-returns-2
 unfolding putResult
-returns-2 c = let a = c .before .before .before .before .args in let f = toZ-ofZ (c .before .before .before .before .fits .w) in
-    let e = c .before .before .put-reg .ensures ∙ ap (λ (v : Cell). settled (a .s) (putReg (regAt (a .r)) v (a .s))) (rw f at (c .before .before .before .word-cell .ensures)) in
-    flags-no (signFlags (a .w)) (a .s) (c .before .before .put-reg .result) _ e (c .if1 .left)
+returns-2 c =
+    let at-put-reg = c .before .before in
+    let at-word-cell = at-put-reg .before in
+    let start = at-word-cell .before in
+    let a = start .args in let f = toZ-ofZ (start .fits .w) in
+    let e = at-put-reg .put-reg .ensures ∙ ap (λ (v : Cell). settled (a .s) (putReg (regAt (a .r)) v (a .s))) (rw f at (at-word-cell .word-cell .ensures)) in
+    flags-no (signFlags (a .w)) (a .s) (at-put-reg .put-reg .result) _ e (c .if1 .left)
 
 pub put-result-spec : {M : Type 1} → statement M
 put-result-spec =

@@ -34,15 +34,27 @@ accept-requires c κs = search needs
 
 returns : tie.Need-returns
 unfolding putWrapped
-returns c = let a = c .before .before .before .before .before .before .before .before .before .args in let f = back (a .x .value) (c .before .before .before .before .before .before .before .before .struct-told .given .0 .1) in
-    let e = c .before .before .before .before .before .before .put-reg .ensures ∙ ap (λ (v : Cell). settled (a .s) (putReg (regAt (a .r)) v (a .s))) (rw f at (c .before .before .before .before .before .before .before .word-cell .ensures)) in
-    c .accept .ensures ∙ ap (λ (t : Registers). settled (a .s) (assigned t)) (rw f at (c .before .sign-flags .ensures) ∙ ap (signFlags (a .x .value)) (c .before .before .before .put-flag .ensures)) ∙ flags-yes (λ (t : Registers). signFlags (a .x .value) (putFlag 3 (a .x .overflow) t)) (a .s) (c .before .before .before .before .before .before .put-reg .result) _ e (c .before .before .before .before .if1 .taken)
+returns c =
+    let at-put-flag = c .before .before .before in
+    let then1 = at-put-flag .before in
+    let at-put-reg = then1 .before .before in
+    let at-word-cell = at-put-reg .before in
+    let at-struct-told = at-word-cell .before in
+    let start = at-struct-told .before in
+    let a = start .args in let f = back (a .x .value) (at-struct-told .struct-told .given .0 .1) in
+    let e = at-put-reg .put-reg .ensures ∙ ap (λ (v : Cell). settled (a .s) (putReg (regAt (a .r)) v (a .s))) (rw f at (at-word-cell .word-cell .ensures)) in
+    c .accept .ensures ∙ ap (λ (t : Registers). settled (a .s) (assigned t)) (rw f at (c .before .sign-flags .ensures) ∙ ap (signFlags (a .x .value)) (at-put-flag .put-flag .ensures)) ∙ flags-yes (λ (t : Registers). signFlags (a .x .value) (putFlag 3 (a .x .overflow) t)) (a .s) (at-put-reg .put-reg .result) _ e (then1 .if1 .taken)
 
 returns-2 : tie.Need-returns-2
 unfolding putWrapped
-returns-2 c = let a = c .before .before .before .before .before .args in let f = back (a .x .value) (c .before .before .before .before .struct-told .given .0 .1) in
-    let e = c .before .before .put-reg .ensures ∙ ap (λ (v : Cell). settled (a .s) (putReg (regAt (a .r)) v (a .s))) (rw f at (c .before .before .before .word-cell .ensures)) in
-    flags-no (λ (t : Registers). signFlags (a .x .value) (putFlag 3 (a .x .overflow) t)) (a .s) (c .before .before .put-reg .result) _ e (c .if1 .left)
+returns-2 c =
+    let at-put-reg = c .before .before in
+    let at-word-cell = at-put-reg .before in
+    let at-struct-told = at-word-cell .before in
+    let start = at-struct-told .before in
+    let a = start .args in let f = back (a .x .value) (at-struct-told .struct-told .given .0 .1) in
+    let e = at-put-reg .put-reg .ensures ∙ ap (λ (v : Cell). settled (a .s) (putReg (regAt (a .r)) v (a .s))) (rw f at (at-word-cell .word-cell .ensures)) in
+    flags-no (λ (t : Registers). signFlags (a .x .value) (putFlag 3 (a .x .overflow) t)) (a .s) (at-put-reg .put-reg .result) _ e (c .if1 .left)
 
 pub put-wrapped-spec : {M : Type 1} → statement M
 put-wrapped-spec =

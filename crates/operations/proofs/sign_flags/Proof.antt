@@ -25,7 +25,11 @@ put-flag-requires-2 : tie.Need-put-flag-requires-2
 put-flag-requires-2 c κs = search needs
 
 returns : tie.Need-returns
-returns c = let f = toZ-ofZ (c .before .before .before .before .fits .w) in c .put-flag2 .ensures ∙ ap₂ (λ (b : Bool) (t : Registers). putFlag 2 b t) (rw f at (c .before .lt .ensures)) (c .before .before .put-flag .ensures ∙ ap (λ (b : Bool). putFlag 1 b (c .before .before .before .before .args .s)) (rw f at (c .before .before .before .eq .ensures)))
+returns c =
+    let at-put-flag = c .before .before in
+    let at-eq = at-put-flag .before in
+    let start = at-eq .before in
+    let f = toZ-ofZ (start .fits .w) in c .put-flag2 .ensures ∙ ap₂ (λ (b : Bool) (t : Registers). putFlag 2 b t) (rw f at (c .before .lt .ensures)) (at-put-flag .put-flag .ensures ∙ ap (λ (b : Bool). putFlag 1 b (start .args .s)) (rw f at (at-eq .eq .ensures)))
 
 pub sign-flags-spec : {M : Type 1} → statement M
 sign-flags-spec =

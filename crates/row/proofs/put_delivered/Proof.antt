@@ -43,8 +43,14 @@ same-length c = search needs
 
 returns : tie.Need-returns
 unfolding deliveredRow
-returns c = let h : c .number-at .result + c .before .before .before .before .before .before .before .args .n < 2 ^ 63 = omega (arith, c .number-at .ensures) in
-    rw (toZ-pos w64 h, back (c .before .before .before .mark-number .result) (c .before .before .before .mark-number .ok), back (c .before .before .mark-number2 .result) (c .before .before .mark-number2 .ok), c .before .before .before .mark-number .ensures, c .before .before .mark-number2 .ensures, c .number-at .ensures, c .before .before .before .before .input-pushed .ensures, c .before .before .before .before .before .marks .ensures)
+returns c =
+    let at-mark-number2 = c .before .before in
+    let at-mark-number = at-mark-number2 .before in
+    let at-input-pushed = at-mark-number .before in
+    let at-marks = at-input-pushed .before in
+    let start = at-marks .before .before in
+    let h : c .number-at .result + start .args .n < 2 ^ 63 = omega (arith, c .number-at .ensures) in
+    rw (toZ-pos w64 h, back (at-mark-number .mark-number .result) (at-mark-number .mark-number .ok), back (at-mark-number2 .mark-number2 .result) (at-mark-number2 .mark-number2 .ok), at-mark-number .mark-number .ensures, at-mark-number2 .mark-number2 .ensures, c .number-at .ensures, at-input-pushed .input-pushed .ensures, at-marks .marks .ensures)
 
 pub put-delivered-spec : {M : Type 1} → statement M
 put-delivered-spec =

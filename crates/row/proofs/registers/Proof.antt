@@ -25,7 +25,11 @@ cast-t10 : tie.Need-cast-t10
 cast-t10 c = search needs
 
 returns : tie.Need-returns
-returns c = rw (c .number-at2 .ensures, c .before .number-at .ensures, c .before .before .cell-at2 .ensures, c .before .before .before .cell-at .ensures, back _ (c .before .before .before .before .sr .given))
+returns c =
+    let at-cell-at2 = c .before .before in
+    let at-cell-at = at-cell-at2 .before in
+    let at-sr = at-cell-at .before in
+    rw (c .number-at2 .ensures, c .before .number-at .ensures, at-cell-at2 .cell-at2 .ensures, at-cell-at .cell-at .ensures, back _ (at-sr .sr .given))
 
 pub registers-spec : {M : Type 1} → statement M
 registers-spec =

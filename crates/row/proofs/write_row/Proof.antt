@@ -28,10 +28,15 @@ same-length c = search needs
 
 returns : tie.Need-returns
 unfolding rowOf
-returns c = let e = c .before .before .before .before .before .before .before .before .before .before .before .before .before .before .before .before .before .before in
-    let a = e .args in
-    rw (c .before .put-console .ensures, c .before .before .before .before .put-marks .ensures, c .before .before .before .before .before .before .before .put-numbers .ensures, c .before .before .before .before .before .before .before .before .before .before .put-cell2 .ensures, c .before .before .before .before .before .before .before .before .before .before .before .before .before .put-cell .ensures)
-    (all-stored (rowOf (machine (core [] (a .s)) (a .cycles) (consoleOf (a .k) [] []))) (a .row .now) (e .pre .0))
+returns c =
+    let at-put-marks = c .before .before .before .before in
+    let at-put-numbers = at-put-marks .before .before .before in
+    let at-put-cell2 = at-put-numbers .before .before .before in
+    let at-put-cell = at-put-cell2 .before .before .before in
+    let start = at-put-cell .before .before .before .before .before in
+    let a = start .args in
+    rw (c .before .put-console .ensures, at-put-marks .put-marks .ensures, at-put-numbers .put-numbers .ensures, at-put-cell2 .put-cell2 .ensures, at-put-cell .put-cell .ensures)
+    (all-stored (rowOf (machine (core [] (a .s)) (a .cycles) (consoleOf (a .k) [] []))) (a .row .now) (start .pre .0))
 
 pub write-row-spec : {M : Type 1} → statement M
 write-row-spec =

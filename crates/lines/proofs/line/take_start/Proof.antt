@@ -10,7 +10,7 @@ use Rattle.lines.proofs.line.take_start.Statement.{statement}
 use Rattle.lines.proofs.line.take_start.Tie as tie
 use Rattle.lines.proofs.line.take_start.Reads as reads
 use Rattle.lines.proofs.line.take_start.Lts as lts
-use Rattle.encoding.proofs.is_address.Reads as is-address-reads
+use Rattle.word.proofs.is_address.Reads as is-address-reads
 use Rattle.lines.proofs.break_line.Reads as break-line-reads
 use Rattle.lines.proofs.line.next_line.Reads as next-line-reads
 use Rattle.lines.proofs.value_of.Reads as value-of-reads

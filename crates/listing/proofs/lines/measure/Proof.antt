@@ -21,11 +21,11 @@ loop-holds c = (refl, omega arith, omega arith, undamaged-first (c .args .image 
 slice-aggregate-put-line : tie.Need-slice-aggregate-put-line Inv-loop μ-loop
 slice-aggregate-put-line c = search needs
 
-cell-at-requires : tie.Need-cell-at-requires Inv-loop μ-loop
-cell-at-requires c κs = search needs
+get-cell-requires : tie.Need-get-cell-requires Inv-loop μ-loop
+get-cell-requires c κs = search needs
 
 put-line-requires : tie.Need-put-line-requires Inv-loop μ-loop
-put-line-requires c κs = let l = c .before .before .before .before .args .image .now in let n = c .before .before .before .loop .n in (rw (c .cell-at .ensures) (sound-here l n (omega arith) (c .before .before .before .loop .inv .3)), search needs)
+put-line-requires c κs = let l = c .before .before .before .before .args .image .now in let n = c .before .before .before .loop .n in (rw (c .get-cell .ensures) (sound-here l n (omega arith) (c .before .before .before .loop .inv .3)), search needs)
 
 sub-if1 : tie.Need-sub-if1 Inv-loop μ-loop
 sub-if1 c = search needs
@@ -34,7 +34,7 @@ returns : tie.Need-returns Inv-loop μ-loop
 returns c = let l = c .before .before .before .before .before .before .before .args .image .now in
     let p = c .before .before .before .before .before .before .loop in
     let i = p .inv .4 in
-    let k = c .before .before .put-line .ensures .1 .0 ∙ ap (λ v. length (lineText v)) (c .before .before .before .cell-at .ensures) in
+    let k = c .before .before .put-line .ensures .1 .0 ∙ ap (λ v. length (lineText v)) (c .before .before .before .get-cell .ensures) in
     let j = lines-length l (p .n) (omega arith) in
     let h = c .if1 .taken in
     fits-not (length (imageText l)) (c .before .before .before .before .before .before .before .args .room) (omega arith)
@@ -52,7 +52,7 @@ loop-again : tie.Need-loop-again Inv-loop μ-loop
 loop-again c = let l = c .before .before .before .before .before .before .before .args .image .now in
     let p = c .before .before .before .before .before .before .loop in
     let i = p .inv .4 in
-    let k = c .before .before .put-line .ensures .1 .0 ∙ ap (λ v. length (lineText v)) (c .before .before .before .cell-at .ensures) in
+    let k = c .before .before .put-line .ensures .1 .0 ∙ ap (λ v. length (lineText v)) (c .before .before .before .get-cell .ensures) in
     let j = lines-length l (p .n) (omega arith) in
     let h = c .if1 .left in
     (p .inv .0 ∙ sym (c .before .before .put-line .kept .0), omega arith, omega arith, undamaged-next l (p .n) (omega arith) (p .inv .3), omega arith)
@@ -73,7 +73,7 @@ measure-spec =
     μ-loop
     loop-holds
     slice-aggregate-put-line
-    cell-at-requires
+    get-cell-requires
     put-line-requires
     sub-if1
     returns

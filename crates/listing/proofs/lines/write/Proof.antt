@@ -20,11 +20,11 @@ loop-holds c = (refl, omega arith, undamaged-first (c .before .args .image .now)
 slice-aggregate-put-line : tie.Need-slice-aggregate-put-line Inv-loop μ-loop
 slice-aggregate-put-line c = search needs
 
-cell-at-requires : tie.Need-cell-at-requires Inv-loop μ-loop
-cell-at-requires c κs = search needs
+get-cell-requires : tie.Need-get-cell-requires Inv-loop μ-loop
+get-cell-requires c κs = search needs
 
 put-line-requires : tie.Need-put-line-requires Inv-loop μ-loop
-put-line-requires c κs = let l = c .before .before .before .before .before .args .image .now in let n = c .before .before .before .loop .n in (rw (c .cell-at .ensures) (sound-here l n (omega arith) (c .before .before .before .loop .inv .2)), search needs)
+put-line-requires c κs = let l = c .before .before .before .before .before .args .image .now in let n = c .before .before .before .loop .n in (rw (c .get-cell .ensures) (sound-here l n (omega arith) (c .before .before .before .loop .inv .2)), search needs)
 
 array-share-prefix-line : tie.Need-array-share-prefix-line Inv-loop μ-loop
 array-share-prefix-line c = search needs
@@ -35,7 +35,7 @@ slice-aggregate-put c = search needs
 put-requires : tie.Need-put-requires Inv-loop μ-loop
 put-requires c κs = let l = c .before .before .before .before .before .before .before .before .before .args .image .now in
     let p = c .before .before .before .before .before .before .before .loop in
-    let e = c .before .before .before .before .cell-at .ensures in
+    let e = c .before .before .before .before .get-cell .ensures in
     let t = c .before .before .before .put-line .ensures .0 ∙ ap lineText e in
     let j = lines-length l (p .n) (omega arith) in
     let q = p .inv .3 .count in
@@ -54,7 +54,7 @@ loop-again c = let s = c .before .before .before .before .before .before .before
     let l = s .args .image .now in
     let p = c .before .before .before .before .before .before .before .before .before .before .loop in
     let u = c .before .before .before .before .before .before .put-line in
-    let t = u .ensures .0 ∙ ap lineText (c .before .before .before .before .before .before .before .cell-at .ensures) in
+    let t = u .ensures .0 ∙ ap lineText (c .before .before .before .before .before .before .before .get-cell .ensures) in
     let w = c .before .before .put in
     let e = rw t at (w .ensures) in
     (p .inv .0 ∙ sym (u .kept .0), omega arith, undamaged-next l (p .n) (omega arith) (p .inv .2), writing-next l (s .args .text .now) (p .text) (p .n) (p .at) (omega arith) (p .inv .3) (w .last .0) (w .result) (e .0) (e .1 .0) (e .1 .1) (w .kept .0))
@@ -73,7 +73,7 @@ write-spec =
     μ-loop
     loop-holds
     slice-aggregate-put-line
-    cell-at-requires
+    get-cell-requires
     put-line-requires
     array-share-prefix-line
     slice-aggregate-put

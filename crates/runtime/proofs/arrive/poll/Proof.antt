@@ -16,8 +16,12 @@ interrupt-polled-requires : tie.Need-interrupt-polled-requires
 interrupt-polled-requires c κs = search needs
 
 returns : tie.Need-returns
-returns c = let on : c .before .before .before .before .interrupt-enable .result ≡ true = c .before .before .before .if1 .taken in
-    let i : interruptEnable (c .before .before .before .before .before .args .s) ≡ true = sym (c .before .before .before .before .interrupt-enable .ensures) ∙ on in
+returns c =
+    let then1 = c .before .before .before in
+    let at-interrupt-enable = then1 .before in
+    let start = at-interrupt-enable .before in
+    let on : at-interrupt-enable .interrupt-enable .result ≡ true = then1 .if1 .taken in
+    let i : interruptEnable (start .args .s) ≡ true = sym (at-interrupt-enable .interrupt-enable .ensures) ∙ on in
     rw (c .before .interrupt-polled .ensures .0, c .before .interrupt-polled .ensures .1, i)
 
 returns-2 : tie.Need-returns-2

@@ -34,7 +34,14 @@ same-length c = search needs
 
 returns : tie.Need-returns
 unfolding saved
-returns c = rw (c .before .put-cell3 .ensures, c .before .before .address-cell2 .ensures, c .before .before .before .before .before .put-cell2 .ensures, c .before .before .before .before .before .before .word-cell .ensures, c .before .before .before .before .before .before .before .before .before .put-cell .ensures, c .before .before .before .before .before .before .before .before .before .before .address-cell .ensures, toZ-ofZ (c .before .before .before .before .before .before .before .before .before .before .before .before .fits .sr))
+returns c =
+    let at-address-cell2 = c .before .before in
+    let at-put-cell2 = at-address-cell2 .before .before .before in
+    let at-word-cell = at-put-cell2 .before in
+    let at-put-cell = at-word-cell .before .before .before in
+    let at-address-cell = at-put-cell .before in
+    let start = at-address-cell .before .before in
+    rw (c .before .put-cell3 .ensures, at-address-cell2 .address-cell2 .ensures, at-put-cell2 .put-cell2 .ensures, at-word-cell .word-cell .ensures, at-put-cell .put-cell .ensures, at-address-cell .address-cell .ensures, toZ-ofZ (start .fits .sr))
 
 pub save-spec : {M : Type 1} → statement M
 save-spec =

@@ -13,7 +13,10 @@ same-length : tie.Need-same-length
 same-length c = search needs
 
 returns : tie.Need-returns
-returns c = rw (c .before .before .before .if1 .taken) (rw (toZ-ofZ (c .before .before .before .before .fits .sr)) at (c .before .save .ensures))
+returns c =
+    let then1 = c .before .before .before in
+    let start = then1 .before in
+    rw (then1 .if1 .taken) (rw (toZ-ofZ (start .fits .sr)) at (c .before .save .ensures))
 
 returns-2 : tie.Need-returns-2
 returns-2 c = search needs

@@ -12,7 +12,10 @@ same-length : tie.Need-same-length
 same-length c = search needs
 
 returns : tie.Need-returns
-returns c = rw (c .before .before .before .before .if1 .taken) (c .before .before .put-byte .ensures)
+returns c =
+    let at-put-byte = c .before .before in
+    let then1 = at-put-byte .before .before in
+    rw (then1 .if1 .taken) (at-put-byte .put-byte .ensures)
 
 returns-2 : tie.Need-returns-2
 returns-2 c = search needs

@@ -15,7 +15,9 @@ same-length : tie.Need-same-length
 same-length c = c .before .put-cell .kept .0
 
 returns : tie.Need-returns
-returns c = c .before .put-cell .ensures ∙ sym (over-in (c .before .before .before .before .args .cells .now) _ _ (omega arith))
+returns c =
+    let start = c .before .before .before .before in
+    c .before .put-cell .ensures ∙ sym (over-in (start .args .cells .now) _ _ (omega arith))
 
 returns-2 : tie.Need-returns-2
 returns-2 c = sym (over-none (c .before .args .cells .now) _ _ (omega arith))

@@ -46,18 +46,26 @@ sub-decode c = let v = c .before .before .args .v in
 
 decode-requires : tie.Need-decode-requires
 unfolding sound soundInstruction
-decode-requires c κs = let v = c .before .before .before .before .args .v in
-    let b = back (v .tag) (c .before .before .before .struct-told .given .0 .1) in
-    let h = rw b at (c .before .before .if1 .left) in
-    let s = c .before .before .before .before .pre in
+decode-requires c κs =
+    let else1 = c .before .before in
+    let at-struct-told = else1 .before in
+    let start = at-struct-told .before in
+    let v = start .args .v in
+    let b = back (v .tag) (at-struct-told .struct-told .given .0 .1) in
+    let h = rw b at (else1 .if1 .left) in
+    let s = start .pre in
     (rw b (code (v .tag) h (near (v .tag) (v .first) (v .second) s) .most), rw b (both _ _ (code-sound (v .tag) (v .first) (v .second) h ∙ s) .0))
 
 returns-2 : tie.Need-returns-2
 unfolding extractInstruction orInstruction
-returns-2 c = let a = c .before .before .before .before .before .args in let v = a .v in
-    let g = c .before .before .before .before .struct-told .given in
+returns-2 c =
+    let else1 = c .before .before .before in
+    let at-struct-told = else1 .before in
+    let start = at-struct-told .before in
+    let a = start .args in let v = a .v in
+    let g = at-struct-told .struct-told .given in
     let b = back (v .tag) (g .0 .1) in
-    let h : ltZ (v .tag) (pos 2) ≡ false = rw b at (c .before .before .before .if1 .left) in
+    let h : ltZ (v .tag) (pos 2) ≡ false = rw b at (else1 .if1 .left) in
     let e = rw (b, back (v .first) (g .1 .0 .1), back (v .second) (g .1 .1 .0 .1)) at (c .decode .ensures .0) in
     record { is = λ (l : List ℤ). ap (λ (i : Instruction). ok i (core l (a .s))) e ∙ sym (ap (λ (x : Extracted). orInstruction x (core l (a .s))) (is-code (v .tag) (v .first) (v .second) h)); known = c .decode .ensures .1; cheap = (let z = ap (λ (i : Instruction). i .cycles) e in let b = decode-small (natAbs (v .tag) - 2) (v .first) (v .second) in omega arith) }
 
