@@ -18,7 +18,7 @@ use Rattle.definition.specs.Runtime as M
 use Rattle.definition.specs.Calls.{Lent, lentMachine, lentOf, lentSupervisor, at, mark, machineOf, rowOf, Called, ran, runCall, calls, answers}
 use Rattle.definition.specs.UserMode.{Accepted, Alike, SameConsole, GoesNoFurther, Zeros, none, one, Entry, Whole, UserMode}
 use Rattle.definition.specs.Accepted.{AcceptedCore, ConsoleIn, AcceptedMachine}
-use Rattle.definition.proofs.AcceptedCore.{User}
+use Rattle.definition.proofs.AcceptedCore.{InUser}
 use Rattle.definition.proofs.UserStep.{around, console, turn-is, turnAround, saved-pc, saved-sr, saved-code, saved-handler, entry-sets}
 use Rattle.definition.proofs.UserRun.{runAround, Within, Last, RunEnd, in-user, entered, RunIs, user-run}
 use Rattle.definition.proofs.Row.{machine-back, accepted-machine, machine-accepted, row-back}
@@ -79,7 +79,7 @@ only-zeros (suc n ∷ ns) m a s f =
 
 -- ---- the two machines
 
-around-accepted : (k : Console) (v : Machine) → ConsoleIn k → AcceptedCore (v .core) → v .cycles < CYCLES-END → v .core .regs .empties ≡ 0 → AcceptedMachine (around k v)
+around-accepted : (k : Console) (v : Machine) → ConsoleIn k → AcceptedCore (v .fence) (v .core) → v .cycles < CYCLES-END → v .core .regs .empties ≡ 0 → AcceptedMachine (around k v)
 around-accepted k v h c n z =
     record { core-in = c; cycles-in = n; console-in = marks-in k _ h; none-counted = z }
 
@@ -226,7 +226,7 @@ module _ (n : ℕ) (ns : List ℕ) (v : Machine) (k₁ k₂ : Console) (a₁ : A
       }
 
 module _ (k₁ k₂ : Console) (h₁ : ConsoleIn k₁) (h₂ : ConsoleIn k₂) where
-  list-on : (n : ℕ) (ns : List ℕ) (v : Machine) (u : User (v .core)) (c : v .cycles < CYCLES-END) (z : v .core .regs .empties ≡ 0) → GoesNoFurther (n ∷ ns) (lentOf (around k₁ v)) → ((w : Machine) → User (w .core) → w .cycles < CYCLES-END → w .core .regs .empties ≡ 0 → GoesNoFurther ns (lentOf (around k₁ w)) → UserCalls ns w k₁ k₂) → UserCalls (n ∷ ns) v k₁ k₂
+  list-on : (n : ℕ) (ns : List ℕ) (v : Machine) (u : InUser v) (c : v .cycles < CYCLES-END) (z : v .core .regs .empties ≡ 0) → GoesNoFurther (n ∷ ns) (lentOf (around k₁ v)) → ((w : Machine) → InUser w → w .cycles < CYCLES-END → w .core .regs .empties ≡ 0 → GoesNoFurther ns (lentOf (around k₁ w)) → UserCalls ns w k₁ k₂) → UserCalls (n ∷ ns) v k₁ k₂
   unfolding supervisor
   list-on n ns v u c z f ih = go (r .end)
     where
@@ -253,7 +253,7 @@ module _ (k₁ k₂ : Console) (h₁ : ConsoleIn k₁) (h₂ : ConsoleIn k₂) w
       go (entered l) =
           on-entry n ns v k₁ k₂ a₁ a₂ r (only-zeros ns (around k₁ (run n v .left)) b₁ (ap (λ (x : Machine). supervisor (x .core .regs)) (l .leaves) ∙ entry-sets (l .last) (l .reached) (l .entry)) g) l (user-run k₁ (l .n) v u (λ i q. w i (let e = l .budget in omega arith)) .is)
 
-  user-calls : (ns : List ℕ) (v : Machine) → User (v .core) → v .cycles < CYCLES-END → v .core .regs .empties ≡ 0 → GoesNoFurther ns (lentOf (around k₁ v)) → UserCalls ns v k₁ k₂
+  user-calls : (ns : List ℕ) (v : Machine) → InUser v → v .cycles < CYCLES-END → v .core .regs .empties ≡ 0 → GoesNoFurther ns (lentOf (around k₁ v)) → UserCalls ns v k₁ k₂
   unfolding calls answers
   user-calls [] v u c z f =
       let clear : supervisor (v .core .regs) ≡ true → ⊥ = λ s. true≢false (sym s ∙ u .clear) in
@@ -285,14 +285,14 @@ same-console : (k : Console) (v w : Machine) → SameConsole (lentOf (around k v
 unfolding rowOf
 same-console k v w = record { queue = refl; output = refl; enable = refl; flag = refl; start = refl; count = refl; written = refl }
 
-around-whole : (k₁ k₂ : Console) (v : Machine) → AcceptedMachine (around k₁ v) → AcceptedMachine (around k₂ v) → User (v .core) → (ns : List ℕ) → GoesNoFurther ns (lentOf (around k₁ v)) → Whole (lentOf (around k₁ v)) (lentOf (around k₂ v)) ns
+around-whole : (k₁ k₂ : Console) (v : Machine) → AcceptedMachine (around k₁ v) → AcceptedMachine (around k₂ v) → InUser v → (ns : List ℕ) → GoesNoFurther ns (lentOf (around k₁ v)) → Whole (lentOf (around k₁ v)) (lentOf (around k₂ v)) ns
 unfolding rowOf
 around-whole k₁ k₂ v a₁ a₂ u ns f =
     let in₁ : ConsoleIn k₁ = marks-in (around k₁ v .console) (k₁ .marks) (a₁ .console-in) in
     let in₂ : ConsoleIn k₂ = marks-in (around k₂ v .console) (k₂ .marks) (a₂ .console-in) in
     let c = user-calls k₁ k₂ in₁ in₂ ns v u (a₁ .cycles-in) (a₁ .none-counted) f in
     let w = c .after in
-    let alike : Alike (lentOf (around k₁ w)) (lentOf (around k₂ w)) = record { cells = refl; registers = same-row k₁ k₂ w; cycles = refl; pending = refl } in
+    let alike : Alike (lentOf (around k₁ w)) (lentOf (around k₂ w)) = record { cells = refl; registers = same-row k₁ k₂ w; cycles = refl; pending = refl; fence = refl } in
     record {
       accepted₁ = λ before after e. calls-accepted before (lentOf (around k₁ v)) (machine-accepted (around k₁ v) a₁);
       accepted₂ = λ before after e. calls-accepted before (lentOf (around k₂ v)) (machine-accepted (around k₂ v) a₂);
@@ -319,7 +319,7 @@ around-same l₁ l₂ e =
     let p₇ = g 7 (omega arith) (omega arith) in
     let p₈ = g 8 (omega arith) (omega arith) in
     let p₉ = g 9 (omega arith) (omega arith) in
-    λ i. machine (core (e .cells i) (record { a = cell (p₁ i) (p₂ i) (p₃ i); b = cell (p₄ i) (p₅ i) (p₆ i); pc = natAbs (p₇ i); sp = natAbs (p₈ i); sr = p₉ i; empties = 0 })) (natAbs (e .cycles i)) (console (lentMachine l₂ .console) (eqZ (e .pending i) (pos 1)))
+    λ i. machine (core (e .cells i) (record { a = cell (p₁ i) (p₂ i) (p₃ i); b = cell (p₄ i) (p₅ i) (p₆ i); pc = natAbs (p₇ i); sp = natAbs (p₈ i); sr = p₉ i; empties = 0 })) (natAbs (e .cycles i)) (console (lentMachine l₂ .console) (eqZ (e .pending i) (pos 1))) (natAbs (e .fence i))
 
 pub user-mode : UserMode
 unfolding lentSupervisor supervisor machineOf
@@ -334,6 +334,6 @@ user-mode l₁ l₂ h₁ h₂ clear alike ns f =
     let e₂ : lentOf (around k₂ v) ≡ l₂ = ap lentOf e ∙ row-back l₂ h₂ in
     let a₁ = accepted-machine l₁ h₁ in
     let a₂ : AcceptedMachine (around k₂ v) = subst AcceptedMachine (sym e) (accepted-machine l₂ h₂) in
-    let u : User (v .core) = record { accepted = a₁ .core-in; clear = clear } in
+    let u : InUser v = record { accepted = a₁ .core-in; clear = clear } in
     let w : Whole (lentOf (around k₁ v)) (lentOf (around k₂ v)) ns = around-whole k₁ k₂ v a₁ a₂ u ns (subst (GoesNoFurther ns) (sym e₁) f) in
     subst (λ (x : Lent). Whole x l₂ ns) e₁ (subst (λ (y : Lent). Whole (lentOf (around k₁ v)) y ns) e₂ w)
