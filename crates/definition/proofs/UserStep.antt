@@ -64,7 +64,7 @@ poll-is k m = go (interruptEnable (m .core .regs) && m .console .marks .pending)
     go false = refl
 
 -- it asks nothing of the console
-serve-nothing : (m : Machine) (q : Request) (cost : ℕ) (c : Core) → Silent q → serve m q cost c ≡ poll (with-cycles (m .cycles + cost) (with-core c m))
+pub serve-nothing : (m : Machine) (q : Request) (cost : ℕ) (c : Core) → Silent q → serve m q cost c ≡ poll (with-cycles (m .cycles + cost) (with-core c m))
 unfolding serve conclude
 serve-nothing m q cost c e = ap (λ q. serve m q cost c) e
 

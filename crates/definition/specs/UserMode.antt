@@ -89,6 +89,9 @@ pub record Whole (l₁ l₂ : Lent) (ns : List ℕ) : Type 0 where
   -- "and each console, pending mark aside, is as it was"
   pub console₁ : SameConsole l₁ (calls ns l₁)
   pub console₂ : SameConsole l₂ (calls ns l₂)
+  -- and so is each fence, which no step writes
+  pub fence₁ : at ROW-FENCE (calls ns l₁ .row) ≡ at ROW-FENCE (l₁ .row)
+  pub fence₂ : at ROW-FENCE (calls ns l₂ .row) ≡ at ROW-FENCE (l₂ .row)
   -- "The step that sets the bit", in each of the two
   pub entry₁ : lentSupervisor (calls ns l₁) ≡ true → Entry ns l₁
   pub entry₂ : lentSupervisor (calls ns l₂) ≡ true → Entry ns l₂
