@@ -69,6 +69,16 @@ static void other_calls(void) {
     due(z33_exercise(made, 5, 0).refusal == 9, "five numbers were taken for cells");
 }
 
+/* On 2^32 steps, whose lower 32 bits are 0, and on as many as there can be. */
+static void long_budgets(void) {
+    static const uint64_t budgets[] = {UINT64_C(1) << 32, UINT64_MAX};
+    for (int i = 0; i < 2; i++) {
+        start();
+        z33_ran ran = z33_run(cells, NUMBERS, queue, QUEUE, output, OUTPUT, row, ROW, budgets[i]);
+        due(ran.refusal == 0 && ran.stop == Z33_STOP_RESET && ran.steps == 1, "a budget of more than 32 bits");
+    }
+}
+
 /* The worked run's two cells, written as text. */
 static void as_text(void) {
     static const char text[] = "add 5, %a\nreset\n";
@@ -120,6 +130,7 @@ static void null_is_taken(void) {
 int main(void) {
     worked_run();
     other_calls();
+    long_budgets();
     as_text();
     null_is_refused();
     null_is_taken();

@@ -19,7 +19,7 @@ const BUDGET_SPENT: u32 = 0;
 pub struct Ended {
     pub stop: u32,
     pub detail: u32,
-    pub steps: u32,
+    pub steps: u64,
     // The words taken from empty cells, over the completed steps.
     pub empty: u64,
     pub m: State,
@@ -130,13 +130,13 @@ fn summed(empty: u64, counted: u64) -> u64
 }
 
 // Computer::run, on a budget. A step that stops counts nothing.
-pub fn run(cells: &mut [i64], queue: &[u8], output: &mut [u8], m: State, budget: u32) -> Ended
+pub fn run(cells: &mut [i64], queue: &[u8], output: &mut [u8], m: State, budget: u64) -> Ended
     requires { do ⌜ AcceptedMachine (machineAt (now cells) (now queue) (now output) m) ⌝ }
     ensures { λ r. ⌜ endedOf (now (cells .exit)) (now (queue .entry)) (now (output .exit)) r ≡ run budget (machineAt (now (cells .entry)) (now (queue .entry)) (now (output .entry)) m) ⌝ }
 {
     let mut saved = m;
     let mut t = m;
-    let mut steps: u32 = 0;
+    let mut steps: u64 = 0;
     let mut empty: u64 = 0;
     while steps < budget {
         let u = step(cells, queue, output, saved, t);

@@ -6,9 +6,7 @@ use lib.Dec.{ltb, eqb}
 use lib.IntN.{ℤ, pos}
 use lib.ListN.{length, take, drop, replicate}
 use lib.Signed.{ltZ}
-use Rattle.definition.specs.declared.Address.{Address}
-use Rattle.definition.specs.declared.Address.the-variants as A
-use Rattle.definition.specs.Word.{bits, addressOf}
+use Rattle.definition.specs.Word.{bits}
 use Rattle.definition.specs.declared.Done.{Done}
 use Rattle.definition.specs.declared.Drained.{Drained}
 use Rattle.definition.specs.declared.Ran.{Ran}
@@ -57,15 +55,11 @@ drainedIn n output row buffer =
     called (x .answer) (x .left .0, x .left .1 ++ drop n buffer)
 
 -- "call run; it is not refused, and answers so"
-unfoldable pub runOn : State → Line → Lent → Address → State × Lent
-runOn s l m A.NotAddress = (withFault s F.Number, m)
-runOn s l m (A.At n) =
-    let x = ranIn n (s .queue) (s .output) m in
+unfoldable pub runLine : State → Line → Lent → State × Lent
+runLine s l m =
+    let x = ranIn (bits (l .a)) (s .queue) (s .output) m in
     let r = x .answer in
     (afterCall s 0 (runAnswer (r .refusal) (r .place) (r .stop) (r .detail) (r .steps) (r .empty)) (runAnswer 0 0 (bits (l .b)) (bits (l .c)) (bits (l .d)) (s .empty)), x .left)
-
-abbrev pub runLine : State → Line → Lent → State × Lent
-runLine s l m = runOn s l m (addressOf (l .a))
 
 -- "call deliver with the bytes of the lines 6 before it"
 unfoldable pub deliverLine : State → Line → List ℕ → List ℕ → List ℤ → State × (List ℕ × List ℤ)

@@ -52,7 +52,7 @@ impl Driver {
         answered
     }
 
-    fn run(&mut self, budget: u32) -> Answer {
+    fn run(&mut self, budget: u64) -> Answer {
         let Ran { stop, detail, steps, read_outside } = self.judge.run(budget);
         self.read_outside += read_outside;
         Answer { stop, detail, count: steps, ..Answer::DONE }
