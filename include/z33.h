@@ -1,15 +1,16 @@
 /* The proved Z33 for C and C++: its calls over memory that the caller owns and lends for the length of a call.
  *
- * Lent are: cells, three numbers each (tag, first, second); the row of 16 numbers (a, b, pc, sp, sr, cycles, the console's marks and
- * counts); the input queue and the output record, as bytes. Each comes as a pointer and a count of elements (numbers or bytes, not
- * cells); where the count is 0 the pointer may be null. Buffers of one call must not overlap.
+ * Lent are: cells, three numbers each (tag, first, second); the row of 17 numbers (a, b, pc, sp, sr, cycles, the console's marks and
+ * counts, the fence); the input queue and the output record, as bytes. Each comes as a pointer and a count of elements (numbers or bytes,
+ * not cells); where the count is 0 the pointer may be null. Buffers of one call must not overlap.
  *
  * An answer begins with refusal and place. refusal 0: the call was done. Otherwise it is the number of what was wrong (below), place
  * says where, every other field is 0 and nothing that was lent has changed.
  *
  * How a machine is booted. z33_fresh leaves a row of zeros, so the machine is in user mode, and z33_set_register sets a, b, pc and sp but
  * not sr. Whoever boots a kernel writes sr into the row, as here: supervisor mode, a stack from cell 1,000 down, an image from cell 0 on
- * (add 5 to a; reset). docs/MANUAL.md has the tags of the instructions.
+ * (add 5 to a; reset). A kernel that keeps cells from its users has its fence written there too: a store below it by a step begun in user
+ * mode raises Z33_INVALID_MEMORY_ACCESS. docs/MANUAL.md has the tags of the instructions.
  *
  *     static int64_t cells[Z33_CELL_LENGTH * 2048], row[Z33_ROW_LENGTH];
  *     static uint8_t queue[256], output[4096];
@@ -56,7 +57,8 @@ enum {
     Z33_ROW_QUEUE_START = 13,
     Z33_ROW_QUEUE_COUNT = 14,
     Z33_ROW_OUTPUT_COUNT = 15,
-    Z33_ROW_LENGTH = 16
+    Z33_ROW_FENCE = 16, /* 0 to the count of cells; 10,000 where a call is not lent them */
+    Z33_ROW_LENGTH = 17
 };
 
 /* Bits of sr. */
@@ -120,7 +122,7 @@ enum {
     Z33_REFUSAL_CELLS = 1,        /* not 3 numbers each for 256 to 10,000 cells */
     Z33_REFUSAL_QUEUE = 2,        /* not 1 to 4,096 bytes */
     Z33_REFUSAL_OUTPUT = 3,       /* over 65,536 bytes */
-    Z33_REFUSAL_ROW = 4,          /* not 16 numbers; or the lowest place, from 1, with a number out of its range */
+    Z33_REFUSAL_ROW = 4,          /* not 17 numbers; or the lowest place, from 1, with a number out of its range */
     Z33_REFUSAL_DAMAGED_CELL = 5, /* place: its address, the lowest one */
     Z33_REFUSAL_DELIVERY = 6,     /* more bytes than the queue has free places */
     Z33_REFUSAL_DRAIN = 7,        /* the buffer is shorter than the output count */

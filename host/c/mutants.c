@@ -52,6 +52,20 @@ enum {
     EMPTY_ONCE,               /* run: swap's address counts once */
     EMPTY_BEFORE_ENTRY,       /* run: what a step took before an exception does not count */
     EMPTY_STARTS_AGAIN,       /* run: the count of empty cells starts again behind the first step */
+    FENCE_LESS_ONE,           /* run: the cell just below the fence may be written */
+    FENCE_MORE_ONE,           /* run: the cell on the fence may not be written */
+    FENCE_ALL,                /* run: the supervisor is fenced too */
+    FENCE_NONE,               /* run: nobody is fenced */
+    FENCE_AFTER,              /* run: S is looked at after the instruction: a swap that clears it is fenced */
+    FENCE_FAS_SETS,           /* run: a fas that the fence stopped has set its register */
+    FENCE_SP_UNDONE,          /* run: a push that the fence stopped puts sp back */
+    FENCE_ENTRY,              /* run: entry does not write a saved cell below the fence */
+    FENCE_READS,              /* run: ld of a cell below the fence is code 5 */
+    FENCE_OUT_OF_RANGE,       /* run: a fence one behind the count of cells is taken */
+    FENCE_NOT_FRESH,          /* fresh: the fence stays */
+    FENCE_LOST,               /* set register: the fence is 0 afterwards */
+    FENCE_UNTESTED,           /* set register: a fence of 10,001 is taken */
+    RAISE_FENCED,             /* raise: a saved cell below the fence is not written */
     RAISE_NO_CYCLE,           /* raise: no cycle is added */
     RAISE_KEEPS_I,            /* raise: code 0 leaves I set */
     EXERCISE_NEXT_SEED,       /* exercise: the cells of the next seed */
@@ -70,12 +84,16 @@ enum {
     START = Z33_ROW_QUEUE_START,
     COUNT = Z33_ROW_QUEUE_COUNT,
     WRITTEN = Z33_ROW_OUTPUT_COUNT,
+    FENCE = Z33_ROW_FENCE,
     ROW = Z33_ROW_LENGTH
 };
-enum { I = Z33_SR_INTERRUPT_ENABLE, HANDLER = Z33_INTERRUPT_HANDLER };
+enum { I = Z33_SR_INTERRUPT_ENABLE, S = Z33_SR_SUPERVISOR, HANDLER = Z33_INTERRUPT_HANDLER };
 /* op * 36 + m1 * 6 + m2 */
 enum {
     CALL_DIRECT = 2 * 36 + 3 * 6,
+    FAS_DIRECT = 5 * 36 + 3 * 6 + 2,
+    PUSH_IMMEDIATE = 22 * 36 + 1 * 6,
+    SWAP_DIRECT = 30 * 36 + 3 * 6 + 2,
     LD_REGISTER = 14 * 36 + 2 * 6 + 2,
     LD_DIRECT = 14 * 36 + 3 * 6 + 2,
     LD_INDIRECT = 14 * 36 + 4 * 6 + 2,
@@ -97,7 +115,12 @@ z33_done z33_fresh(int64_t *cells, size_t cells_len, int64_t *row, size_t row_le
     if (MUTANT == MOST_CELLS && cells_len == 30003) {
         cells_len = 30000;
     }
-    return whole_z33_fresh(cells, cells_len, row, row_len);
+    int64_t fence = row_len == ROW ? row[FENCE] : 0;
+    z33_done done = whole_z33_fresh(cells, cells_len, row, row_len);
+    if (MUTANT == FENCE_NOT_FRESH && done.refusal == 0) {
+        row[FENCE] = fence;
+    }
+    return done;
 }
 
 /* A budget or a refusal given instead of the caller's own. */
@@ -149,6 +172,52 @@ static int read_otherwise(int64_t *cells, size_t cells_len, int64_t *row, z33_ra
     return 1;
 }
 
+/* A fence that an accepted machine is run with instead of its own. */
+static int64_t other_fence(int64_t fence, int64_t count) {
+    switch (MUTANT) {
+    case FENCE_LESS_ONE: return fence > 0 ? fence - 1 : 0;
+    case FENCE_MORE_ONE: return fence > 0 && fence < count ? fence + 1 : fence;
+    case FENCE_NONE: return 0;
+    default: return fence;
+    }
+}
+
+/* A step of an accepted machine that is not left to the library: a push of the supervisor's, or a read, below the fence. */
+static int fenced_otherwise(int64_t form, int64_t *cells, size_t cells_len, int64_t *row, z33_ran *ran) {
+    int supervisor = (row[SR] & S) != 0;
+    int pushes = MUTANT == FENCE_ALL && form == PUSH_IMMEDIATE && supervisor && row[SP] > 0 && row[SP] <= row[FENCE];
+    int reads = MUTANT == FENCE_READS && form == LD_DIRECT && !supervisor && cells[3 * row[PC] + 1] < row[FENCE];
+    if (!pushes && !reads) {
+        return 0;
+    }
+    row[PC]++;
+    row[SP] -= pushes;
+    raise_5(cells, cells_len, row, ran);
+    return 1;
+}
+
+/* A step under a fence, changed: the instruction's cell, the row and cell 100 as they were before. */
+static void fence_after(const int64_t *instruction, const int64_t *before, const int64_t *saved,
+                        int64_t *cells, size_t cells_len, int64_t *row, z33_ran *ran) {
+    int64_t form = (instruction[0] - 2) / 25, to = instruction[1], reg = (instruction[0] - 2) % 5;
+    int supervisor = (before[SR] & S) != 0;
+    int entered = ran->steps == 1 && row[PC] == HANDLER && cells[3 * 102 + 1] == 5;
+    if (MUTANT == FENCE_AFTER && form == SWAP_DIRECT && reg == 4 && supervisor && ran->steps == 1 && !(row[SR] & S) && to < row[FENCE]) {
+        cells[3 * to + 1] = row[SR];
+        row[CYCLES] = before[CYCLES];
+        raise_5(cells, cells_len, row, ran);
+    }
+    if (MUTANT == FENCE_FAS_SETS && form == FAS_DIRECT && reg == 0 && !supervisor && entered && to < row[FENCE]) {
+        memcpy(row + Z33_ROW_A, cells + 3 * to, 3 * sizeof *row);
+    }
+    if (MUTANT == FENCE_SP_UNDONE && form == PUSH_IMMEDIATE && !supervisor && entered) {
+        row[SP] = before[SP];
+    }
+    if (MUTANT == FENCE_ENTRY && !supervisor && entered && row[FENCE] > 100) {
+        memcpy(cells + 3 * 100, saved, 3 * sizeof *cells);
+    }
+}
+
 /* The machine after one step that was taken, changed. */
 static void step_after(int64_t *cells, size_t cells_len, int64_t *row, z33_ran *ran) {
     int entered = ran->steps == 1 && row[PC] == HANDLER && cells[3 * 102 + 1] != 0;
@@ -187,20 +256,32 @@ z33_ran z33_run(int64_t *cells, size_t cells_len, uint8_t *queue, size_t queue_l
     }
     ran = whole_z33_run(cells, cells_len, queue, queue_len, output, output_len, row, row_len, 0);
     int64_t form = ran.refusal == 0 ? form_at(cells, cells_len, before[PC]) : -1;
-    if (ran.refusal == 0 && budget == 1 && read_otherwise(cells, cells_len, row, &ran)) {
+    if (ran.refusal == 0 && budget == 1 && (read_otherwise(cells, cells_len, row, &ran) || fenced_otherwise(form, cells, cells_len, row, &ran))) {
         return ran;
     }
     if (MUTANT == POLL_AT_START && ran.refusal == 0 && budget > 0 && (row[SR] & I) && row[PENDING]) {
         row[PENDING] = 0;
         whole_z33_raise(cells, cells_len, row, ROW, 0);
     }
-    uint64_t first = MUTANT == EMPTY_STARTS_AGAIN && budget > 1 ? 1 : 0;
+    uint64_t first = MUTANT == EMPTY_STARTS_AGAIN && ran.refusal == 0 && budget > 1;
     if (first > 0) {
         ran = whole_z33_run(cells, cells_len, queue, queue_len, output, output_len, row, row_len, first);
+        if (ran.stop != 0) {
+            return ran;
+        }
     }
-    if (ran.refusal == 0 && ran.stop == 0) {
-        ran = whole_z33_run(cells, cells_len, queue, queue_len, output, output_len, row, row_len, other_budget(budget) - first);
-        ran.steps += first;
+    int64_t instruction[3] = {0}, saved[3] = {0};
+    if (ran.refusal == 0) {
+        memcpy(instruction, cells + (form < 0 ? 0 : 3 * before[PC]), sizeof instruction);
+        memcpy(saved, cells + 3 * 100, sizeof saved);
+        row[FENCE] = other_fence(before[FENCE], (int64_t)(cells_len / 3));
+    } else if (MUTANT == FENCE_OUT_OF_RANGE && ran.refusal == 4 && ran.place == FENCE + 1 && before[FENCE] == (int64_t)(cells_len / 3) + 1) {
+        row[FENCE]--;
+    }
+    ran = whole_z33_run(cells, cells_len, queue, queue_len, output, output_len, row, row_len, other_budget(budget) - first);
+    ran.steps += first;
+    if (ran.refusal == 0) {
+        row[FENCE] = before[FENCE];
     }
     if (ran.refusal != 0) {
         ran.place += MUTANT == PLACE_OF_DAMAGE && ran.refusal == 5;
@@ -210,6 +291,9 @@ z33_ran z33_run(int64_t *cells, size_t cells_len, uint8_t *queue, size_t queue_l
         return ran;
     }
     step_after(cells, cells_len, row, &ran);
+    if (budget == 1 && form >= 0) {
+        fence_after(instruction, before, saved, cells, cells_len, row, &ran);
+    }
     if (MUTANT == NEGATIVE_TRAPS && budget == 1 && ran.stop == 4 && form == LD_INDIRECT) {
         raise_5(cells, cells_len, row, &ran);
     }
@@ -318,12 +402,22 @@ z33_done z33_set_register(int64_t *row, size_t row_len, uint64_t reg, int64_t wo
         row[SR] = word;
         done.refusal = 0;
     }
+    if (MUTANT == FENCE_UNTESTED && done.refusal == 4 && done.place == FENCE + 1 && row[FENCE] == 10001) {
+        return (z33_done){0, 0};
+    }
+    if (MUTANT == FENCE_LOST && done.refusal == 0) {
+        row[FENCE] = 0;
+    }
     return done;
 }
 
 z33_raised z33_raise(int64_t *cells, size_t cells_len, int64_t *row, size_t row_len, uint64_t code) {
     if (MUTANT == CUT_CODE) {
         code = (uint32_t)code;
+    }
+    int64_t saved[3] = {0};
+    if (cells_len >= 3 * 256) {
+        memcpy(saved, cells + 3 * 100, sizeof saved);
     }
     z33_raised raised = whole_z33_raise(cells, cells_len, row, row_len, code);
     if (MUTANT == CODE_BEFORE_ROW && raised.refusal == 4 && code > 5) {
@@ -333,6 +427,9 @@ z33_raised z33_raise(int64_t *cells, size_t cells_len, int64_t *row, size_t row_
         row[CYCLES] -= MUTANT == RAISE_NO_CYCLE;
         if (MUTANT == RAISE_KEEPS_I && code == 0) {
             row[SR] |= cells[3 * 101 + 1] & I;
+        }
+        if (MUTANT == RAISE_FENCED && row[FENCE] > 100) {
+            memcpy(cells + 3 * 100, saved, sizeof saved);
         }
     }
     return raised;

@@ -24,7 +24,7 @@ IS(Z33_PC, 2);
 IS(Z33_SP, 3);
 IS(Z33_SR, 4);
 
-/* "Row of 16 numbers": a place from 1 is one more than the constant. */
+/* "Row of 16 numbers" and "a seventeenth number, the fence": a place from 1 is one more than the constant. */
 IS(Z33_ROW_A + 1, 1);
 IS(Z33_ROW_B + 1, 4);
 IS(Z33_ROW_PC + 1, 7);
@@ -37,7 +37,8 @@ IS(Z33_ROW_PENDING + 1, 13);
 IS(Z33_ROW_QUEUE_START + 1, 14);
 IS(Z33_ROW_QUEUE_COUNT + 1, 15);
 IS(Z33_ROW_OUTPUT_COUNT + 1, 16);
-IS(Z33_ROW_LENGTH, Z33_ROW_OUTPUT_COUNT + 1);
+IS(Z33_ROW_FENCE + 1, 17);
+IS(Z33_ROW_LENGTH, Z33_ROW_FENCE + 1);
 
 /* "exceptions with codes 0 to 5" */
 IS(Z33_HARDWARE_INTERRUPT, 0);

@@ -1,4 +1,4 @@
-/* Document 01's worked run from C, and buffers of length 0 that come as null pointers.
+/* Document 01's worked run from C, the other calls, the fence, and buffers of length 0 that come as null pointers.
  * Prints the runner's eight lines; worked.txt holds what they must be. */
 #include <inttypes.h>
 #include <stdio.h>
@@ -79,6 +79,27 @@ static void long_budgets(void) {
     }
 }
 
+/* A store by a step begun in user mode, below the fence and on it; and a fence that is none. */
+static void fence(void) {
+    static const int64_t image[] = {25577, 0, 300}; /* st %a,[300] */
+    start();
+    is_done(z33_load(cells, NUMBERS, image, 3, 0), "the store was refused");
+    row[Z33_ROW_FENCE] = 301;
+    z33_ran ran = z33_run(cells, NUMBERS, queue, QUEUE, output, OUTPUT, row, ROW, 1);
+    due(ran.refusal == 0 && ran.stop == Z33_STOP_NO_HANDLER && ran.detail == Z33_INVALID_MEMORY_ACCESS, "a store below the fence");
+    due(cells[3 * 300] == Z33_TAG_EMPTY && row[Z33_ROW_FENCE] == 301, "the cell below the fence, or the fence, has changed");
+    is_done(z33_set_register(row, ROW, Z33_PC, 0), "pc was refused");
+    row[Z33_ROW_FENCE] = 300;
+    ran = z33_run(cells, NUMBERS, queue, QUEUE, output, OUTPUT, row, ROW, 1);
+    due(ran.refusal == 0 && ran.steps == 1 && cells[3 * 300] == Z33_TAG_WORD, "a store on the fence");
+    row[Z33_ROW_FENCE] = CELLS + 1;
+    ran = z33_run(cells, NUMBERS, queue, QUEUE, output, OUTPUT, row, ROW, 1);
+    due(ran.refusal == Z33_REFUSAL_ROW && ran.place == Z33_ROW_FENCE + 1, "a fence behind the cells");
+    due(z33_set_register(row, ROW, Z33_A, 1).refusal == 0, "where the cells are not lent there are 10,000");
+    row[Z33_ROW_FENCE] = Z33_CELLS_MOST + 1;
+    due(z33_set_register(row, ROW, Z33_A, 1).place == Z33_ROW_FENCE + 1, "a fence behind the last cell that there can be");
+}
+
 /* The worked run's two cells, written as text. */
 static void as_text(void) {
     static const char text[] = "add 5, %a\nreset\n";
@@ -131,6 +152,7 @@ int main(void) {
     worked_run();
     other_calls();
     long_budgets();
+    fence();
     as_text();
     null_is_refused();
     null_is_taken();

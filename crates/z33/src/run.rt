@@ -35,7 +35,7 @@ pub extern "C" fn z33_run(
         let after = e.m;
         let s = after.s;
         let k = after.k;
-        row::write_row(row, s, after.cycles, k);
+        row::write_row(row, s, after.cycles, k, after.fence);
         return ran(e.stop, e.detail, e.steps, e.empty);
     }
     Ran {

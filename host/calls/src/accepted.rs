@@ -51,16 +51,21 @@ fn some_bytes(rng: &mut Rng, length: usize) -> Vec<u8> {
     (0..length).map(|_| rng.byte()).collect()
 }
 
-/// The queue's and the output record's length as the call reads them.
-pub fn lengths(trial: &Trial) -> (i64, i64) {
-    let read = |buffer: Buffer, not_lent: usize| {
-        if trial.call.is_lent(buffer) { trial.length(buffer) } else { not_lent }
+/// The queue's and the output record's length as the call reads them, and the count of cells, of which there are so many.
+pub fn lengths(trial: &Trial, cells: usize) -> (i64, i64, i64) {
+    let read = |buffer: Buffer, length: usize, not_lent: usize| {
+        if trial.call.is_lent(buffer) { length as i64 } else { not_lent as i64 }
     };
-    (read(Buffer::Queue, QUEUE_MOST) as i64, read(Buffer::Output, OUTPUT_MOST) as i64)
+    let length = |buffer: Buffer| trial.length(buffer);
+    (
+        read(Buffer::Queue, length(Buffer::Queue), QUEUE_MOST),
+        read(Buffer::Output, length(Buffer::Output), OUTPUT_MOST),
+        read(Buffer::Cells, cells, CELLS_MOST),
+    )
 }
 
 fn draw_row(rng: &mut Rng, trial: &mut Trial, cells: usize) {
-    let (queue, output) = lengths(trial);
+    let (queue, output, most) = lengths(trial, cells);
     let mut row = vec![0; ROW];
     row::put_cell(&mut row, at::A, edges::cell(rng));
     row::put_cell(&mut row, at::B, edges::cell(rng));
@@ -74,6 +79,7 @@ fn draw_row(rng: &mut Rng, trial: &mut Trial, cells: usize) {
     row[at::QUEUE_START] = up_to(rng, queue - 1);
     row[at::QUEUE_COUNT] = up_to(rng, queue);
     row[at::OUTPUT_COUNT] = up_to(rng, output);
+    row[at::FENCE] = up_to(rng, most);
     if trial.call == Call::Fresh {
         // "never the row's old numbers"
         row = (0..ROW).map(|_| edges::word(rng)).collect();

@@ -193,7 +193,7 @@ fn row_faults(trial: &Trial, faults: &mut Vec<Fault>) {
     if trial.call == Call::Fresh {
         return;
     }
-    let (queue, output) = lengths(trial);
+    let (queue, output, cells) = lengths(trial, trial.length(Buffer::Cells) / cell::LENGTH);
     for place in [at::A, at::B] {
         faults.extend(DAMAGED.map(|cell| Fault::RowCell(place, cell)));
     }
@@ -207,6 +207,7 @@ fn row_faults(trial: &Trial, faults: &mut Vec<Fault>) {
         (at::QUEUE_START, queue),
         (at::QUEUE_COUNT, queue + 1),
         (at::OUTPUT_COUNT, output + 1),
+        (at::FENCE, cells + 1),
     ] {
         faults.push(Fault::RowNumber(place, past));
         faults.extend(FAR.map(|number| Fault::RowNumber(place, number)));

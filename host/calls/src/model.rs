@@ -2,7 +2,7 @@
 //! The tests see what is lent and cannot change it, so a refusal changes nothing. What they accept, run, deliver, drain,
 //! set register and raise, `plain` does.
 
-use layout::limit::{OUTPUT_MOST, QUEUE_MOST};
+use layout::limit::{CELLS_MOST, OUTPUT_MOST, QUEUE_MOST};
 use layout::{Row, at, cell, refusal};
 
 use crate::refusals::{self as test, Tested};
@@ -63,11 +63,12 @@ fn tested(trial: &Trial, lent: &Lent) -> Tested {
     }
 }
 
-/// "Where a call isn't lent that buffer, the lengths are read as 4,096 and 65,536".
+/// "Where a call isn't lent that buffer, the lengths are read as 4,096 and 65,536, and a count of cells as 10,000".
 fn row(call: Call, lent: &Lent) -> Tested {
     let queue = if call.is_lent(Buffer::Queue) { lent.queue.len() } else { QUEUE_MOST };
     let output = if call.is_lent(Buffer::Output) { lent.output.len() } else { OUTPUT_MOST };
-    test::row(&lent.row, queue, output)
+    let cells = if call.is_lent(Buffer::Cells) { lent.cells.len() / cell::LENGTH } else { CELLS_MOST };
+    test::row(&lent.row, queue, output, cells)
 }
 
 /// What follows refusal and place in the answer.

@@ -30,18 +30,18 @@ pub fn output(length: usize) -> Tested {
     test(length <= OUTPUT_MOST, refusal::OUTPUT, 0)
 }
 
-/// "The row is not 16 long"
+/// "Refusal 4 now wants 17 numbers."
 pub fn row_length(length: usize) -> Tested {
     test(length == ROW, refusal::ROW, 0)
 }
 
 /// "or its number at this place (from 1, the lowest such) is out of range". sr is any word.
-pub fn row(row: &[i64], queue: usize, output: usize) -> Tested {
+pub fn row(row: &[i64], queue: usize, output: usize, cells: usize) -> Tested {
     row_length(row.len())?;
     for place in [at::A, at::B] {
         test(sound(row::cell(row, place)), refusal::ROW, from_1(place))?;
     }
-    let (queue, output) = (queue as i64, output as i64);
+    let (queue, output, cells) = (queue as i64, output as i64, cells as i64);
     let most = [
         (at::PC, ADDRESS_LAST),
         (at::SP, ADDRESS_LAST),
@@ -52,6 +52,7 @@ pub fn row(row: &[i64], queue: usize, output: usize) -> Tested {
         (at::QUEUE_START, queue - 1),
         (at::QUEUE_COUNT, queue),
         (at::OUTPUT_COUNT, output),
+        (at::FENCE, cells),
     ];
     for (place, most) in most {
         test((0..=most).contains(&row[place]), refusal::ROW, from_1(place))?;

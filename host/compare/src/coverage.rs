@@ -25,33 +25,65 @@ const ON_PC: Outcome = Stopped(stop::INVALID_REGISTER, PC as u64);
 const ON_SP: Outcome = Stopped(stop::INVALID_REGISTER, SP as u64);
 const ON_SR: Outcome = Stopped(stop::INVALID_REGISTER, SR as u64);
 
-/// Every outcome with the count of forms (of the 124, and the fetch) that the original can come to it with, and the count of those
-/// that come to it by reading an operand outside the cells, where the original has no answer (document 02, Card 9).
-pub const OUTCOMES: [(Outcome, usize, usize); 21] = [
-    (Done, 122, 0),
-    (Interrupt, 122, 0),
-    (Entered(code::DIV_BY_ZERO), 5, 0),
-    (Entered(code::INVALID_INSTRUCTION), 11, 0),
-    (Entered(code::PRIVILEGED_INSTRUCTION), 70, 0),
-    (Entered(code::TRAP), 1, 0),
-    (Entered(code::INVALID_MEMORY_ACCESS), 18, 60),
-    (Unhandled(code::HARDWARE_INTERRUPT), 122, 0),
-    (Unhandled(code::DIV_BY_ZERO), 5, 0),
-    (Unhandled(code::INVALID_INSTRUCTION), 11, 0),
-    (Unhandled(code::PRIVILEGED_INSTRUCTION), 70, 0),
-    (Unhandled(code::TRAP), 1, 0),
-    (Unhandled(code::INVALID_MEMORY_ACCESS), 18, 60),
-    (Stopped(stop::RESET, 0), 1, 0),
-    (Stopped(stop::CELL_ERROR, 0), 14, 0),
-    (Stopped(stop::EXTRACT, 0), 104, 0),
-    (ON_PC, 50, 0),
-    (ON_SP, 50, 0),
-    (ON_SR, 12, 0),
-    (Stopped(stop::OUTPUT_FULL, 0), 6, 0),
-    (Stopped(stop::CYCLES_FULL, 0), 124, 60),
+/// Kinds of steps: those that the original answers; those that read an operand outside the cells, where it has no answer (document 02,
+/// Card 9); and those that the fence stopped, which it has not (Card 5).
+#[derive(Clone, Copy, Debug, PartialEq, Eq)]
+pub enum Kind {
+    Own,
+    ReadOutside,
+    Fenced,
+}
+
+pub const KINDS: [Kind; 3] = [Kind::Own, Kind::ReadOutside, Kind::Fenced];
+/// Those of machines without a fence.
+pub const WITHOUT_FENCE: [Kind; 2] = [Kind::Own, Kind::ReadOutside];
+
+impl Kind {
+    fn of(step: &Step) -> Self {
+        match (step.read_outside, step.fenced) {
+            (_, true) => Kind::Fenced,
+            (true, _) => Kind::ReadOutside,
+            _ => Kind::Own,
+        }
+    }
+
+    fn told(self) -> &'static str {
+        match self {
+            Kind::Own => "",
+            Kind::ReadOutside => " after a read outside",
+            Kind::Fenced => " at the fence",
+        }
+    }
+}
+
+/// Every outcome with the count of forms (of the 124, and the fetch) that the original can come to it with, of those that come to it by
+/// reading an operand outside the cells, and of those that come to it by the fence.
+pub const OUTCOMES: [(Outcome, [usize; KINDS.len()]); 21] = [
+    (Done, [122, 0, 0]),
+    (Interrupt, [122, 0, 0]),
+    (Entered(code::DIV_BY_ZERO), [5, 0, 0]),
+    (Entered(code::INVALID_INSTRUCTION), [11, 0, 0]),
+    (Entered(code::PRIVILEGED_INSTRUCTION), [70, 0, 0]),
+    (Entered(code::TRAP), [1, 0, 0]),
+    (Entered(code::INVALID_MEMORY_ACCESS), [18, 60, 16]),
+    (Unhandled(code::HARDWARE_INTERRUPT), [122, 0, 0]),
+    (Unhandled(code::DIV_BY_ZERO), [5, 0, 0]),
+    (Unhandled(code::INVALID_INSTRUCTION), [11, 0, 0]),
+    (Unhandled(code::PRIVILEGED_INSTRUCTION), [70, 0, 0]),
+    (Unhandled(code::TRAP), [1, 0, 0]),
+    (Unhandled(code::INVALID_MEMORY_ACCESS), [18, 60, 16]),
+    (Stopped(stop::RESET, 0), [1, 0, 0]),
+    (Stopped(stop::CELL_ERROR, 0), [14, 0, 0]),
+    (Stopped(stop::EXTRACT, 0), [104, 0, 0]),
+    (ON_PC, [50, 0, 0]),
+    (ON_SP, [50, 0, 0]),
+    (ON_SR, [12, 0, 0]),
+    (Stopped(stop::OUTPUT_FULL, 0), [6, 0, 0]),
+    (Stopped(stop::CYCLES_FULL, 0), [124, 60, 16]),
 ];
 
-/// (form, outcome) pairs: the original's, those of them that are no more, those that it cannot come to, and all that are possible.
+/// (form, outcome) pairs: the original's, those of them that are no more, those that it cannot come to, and all that are possible. The
+/// fence brings no pair that is not among them.
 const IN_THE_ORIGINAL: usize = 937;
 const CEASED: usize = 2;
 const NEW: usize = 110;
@@ -73,21 +105,38 @@ pub fn column(outcome: Outcome) -> Result<usize, String> {
     column.ok_or(format!("no such outcome: {outcome:?}"))
 }
 
-/// Whether a form can come out so in a step that reads an operand outside the cells, or in one that does not.
-pub fn possible(form: Option<Form>, outcome: Outcome, read_outside: bool) -> bool {
-    if read_outside { traps(form, outcome) } else { in_the_original(form, outcome) && !ceased(form, outcome) }
+/// Whether a form can come out so in a step of this kind.
+pub fn possible(form: Option<Form>, outcome: Outcome, kind: Kind) -> bool {
+    match kind {
+        Kind::Own => in_the_original(form, outcome) && !ceased(form, outcome),
+        Kind::ReadOutside => traps(form, outcome),
+        Kind::Fenced => fenced(form, outcome),
+    }
 }
 
-/// Whether an operand of this form is a cell of memory that is read, and outside raises code 5; where a full cycle count leaves no
-/// room for the entry, that is told first.
+/// Whether an operand of this form is a cell of memory that is read, and outside raises code 5.
 fn traps(form: Option<Form>, outcome: Outcome) -> bool {
+    form.is_some_and(reads_memory) && by_code_5(outcome)
+}
+
+/// Whether this form writes a cell of memory, and below the fence raises code 5.
+fn fenced(form: Option<Form>, outcome: Outcome) -> bool {
+    form.is_some_and(writes_memory) && by_code_5(outcome)
+}
+
+/// Where a full cycle count leaves no room for the entry, that is told first.
+fn by_code_5(outcome: Outcome) -> bool {
     const CODE: u64 = code::INVALID_MEMORY_ACCESS;
-    let stands = matches!(outcome, Entered(CODE) | Unhandled(CODE) | Stopped(stop::CYCLES_FULL, _));
-    form.is_some_and(reads_memory) && stands
+    matches!(outcome, Entered(CODE) | Unhandled(CODE) | Stopped(stop::CYCLES_FULL, _))
 }
 
 fn reads_memory(form: Form) -> bool {
     form.m1 >= DIR && (matches!(form.op, CALL | JMP..=JGT | LD | SWAP) || TWO_WORDS.contains(&form.op))
+}
+
+/// st, swap, fas, push and call.
+pub fn writes_memory(form: Form) -> bool {
+    matches!(form.op, CALL | FAS | PUSH | ST) || form.op == SWAP && form.m1 >= DIR
 }
 
 /// The original's pairs that only a read outside came to: a direct operand is an address, and ld and swap carry any cell.
@@ -166,8 +215,8 @@ fn leaves_addresses(form: Form) -> bool {
 pub struct Coverage {
     forms: Vec<Option<Form>>,
     place: Vec<usize>,
-    /// In steps that the original answers, and in those that read an operand outside.
-    counts: [Vec<[u64; OUTCOMES.len()]>; 2],
+    /// By the kind of step.
+    counts: [Vec<[u64; OUTCOMES.len()]>; KINDS.len()],
 }
 
 impl Default for Coverage {
@@ -177,7 +226,7 @@ impl Default for Coverage {
         for (i, form) in all().iter().enumerate() {
             place[form.entry()] = i;
         }
-        let counts = [(); 2].map(|()| vec![[0; OUTCOMES.len()]; forms.len()]);
+        let counts = KINDS.map(|_| vec![[0; OUTCOMES.len()]; forms.len()]);
         let coverage = Self { forms, place, counts };
         coverage.totals_agree();
         coverage
@@ -187,11 +236,11 @@ impl Default for Coverage {
 impl Coverage {
     /// The rules give the counts that are required.
     fn totals_agree(&self) {
-        for (outcome, original, outside) in OUTCOMES {
+        for (outcome, counts) in OUTCOMES {
             let total = |rule: fn(Option<Form>, Outcome) -> bool| {
                 self.forms.iter().filter(|form| rule(**form, outcome)).count()
             };
-            assert_eq!((total(in_the_original), total(traps)), (original, outside), "{outcome:?}");
+            assert_eq!([total(in_the_original), total(traps), total(fenced)], counts, "{outcome:?}");
         }
         let total = |rule: fn(Option<Form>, Outcome) -> bool| {
             self.pairs().filter(|pair| rule(pair.0, pair.1)).count()
@@ -199,6 +248,8 @@ impl Coverage {
         assert_eq!(total(in_the_original), IN_THE_ORIGINAL);
         assert_eq!(total(|form, outcome| in_the_original(form, outcome) && ceased(form, outcome)), CEASED);
         assert_eq!(total(|form, outcome| traps(form, outcome) && !in_the_original(form, outcome)), NEW);
+        let known = |form, outcome| traps(form, outcome) || in_the_original(form, outcome);
+        assert!(self.pairs().all(|(form, outcome)| known(form, outcome) || !fenced(form, outcome)));
     }
 
     /// Every form with every outcome, possible or not.
@@ -208,54 +259,54 @@ impl Coverage {
 
     /// Counts a step from the cell fetched; how often its pair was met so, or what is wrong with it.
     pub fn count(&mut self, fetched: Option<Cell>, step: &Step) -> Result<u64, String> {
-        let (outcome, read_outside) = (outcome(step), step.read_outside);
+        let (outcome, kind) = (outcome(step), Kind::of(step));
         let form = fetched.map(|cell| Form::of_tag(cell[0]).entry());
         let form = form.map_or(self.forms.len() - 1, |form| self.place[form]);
         let column = column(outcome)?;
-        if !possible(self.forms[form], outcome, read_outside) {
-            let told = if read_outside { " after a read outside" } else { "" };
-            return Err(format!("{} came out as {outcome:?}{told}", name(self.forms[form])));
+        if !possible(self.forms[form], outcome, kind) {
+            return Err(format!("{} came out as {outcome:?}{}", name(self.forms[form]), kind.told()));
         }
-        let count = &mut self.counts[usize::from(read_outside)][form][column];
+        let count = &mut self.counts[kind as usize][form][column];
         *count += 1;
         Ok(*count)
     }
 
-    /// The possible pairs that were not reached so often, by name: those of steps that the original answers, and those of steps that
-    /// read an operand outside.
-    pub fn missing(&self, times: u64) -> Vec<String> {
+    /// The possible pairs that were not reached so often in steps of these kinds, by name.
+    pub fn missing(&self, kinds: &[Kind], times: u64) -> Vec<String> {
         let mut missing = Vec::new();
-        for read_outside in [false, true] {
-            let counts = self.counts[usize::from(read_outside)].iter().flatten();
+        for kind in kinds {
+            let counts = self.counts[*kind as usize].iter().flatten();
             for ((form, outcome), count) in self.pairs().zip(counts) {
-                if possible(form, outcome, read_outside) && *count < times {
-                    let told = if read_outside { " after a read outside" } else { "" };
-                    missing.push(format!("{} {outcome:?}{told}", name(form)));
+                if possible(form, outcome, *kind) && *count < times {
+                    missing.push(format!("{} {outcome:?}{}", name(form), kind.told()));
                 }
             }
         }
         missing
     }
 
-    /// The pairs reached in a step of either kind, of all that are possible.
+    /// How often a form came out so, in steps of every kind.
+    fn times(&self, form: usize, column: usize) -> u64 {
+        self.counts.iter().map(|of_kind| of_kind[form][column]).sum()
+    }
+
+    /// The pairs reached in a step of any kind, of all that are possible.
     pub fn reached(&self) -> (usize, usize) {
-        let [own, outside] = &self.counts;
-        let reached = own.iter().flatten().zip(outside.iter().flatten());
-        (reached.filter(|(own, outside)| **own + **outside > 0).count(), PAIRS)
+        let columns = |form: usize| (0..OUTCOMES.len()).filter(move |column| self.times(form, *column) > 0);
+        ((0..self.forms.len()).map(|form| columns(form).count()).sum(), PAIRS)
     }
 
     /// The count of forms (the fetch apart) with any outcome, and how often the least of these was taken.
     pub fn forms_taken(&self) -> (usize, u64) {
-        let [own, outside] = &self.counts;
-        let all = own.iter().zip(outside).take(self.forms.len() - 1);
-        let taken: Vec<u64> =
-            all.map(|(own, outside)| own.iter().chain(outside).sum()).filter(|times| *times > 0).collect();
+        let times = |form: usize| (0..OUTCOMES.len()).map(|column| self.times(form, column)).sum();
+        let taken: Vec<u64> = (0..self.forms.len() - 1).map(times).filter(|times| *times > 0).collect();
         (taken.len(), taken.iter().copied().min().unwrap_or(0))
     }
 
     /// What of the pairs the original could be asked, where all were reached.
     pub fn told(&self) -> Vec<String> {
-        let reached = |kind: usize| self.counts[kind].iter().flatten().filter(|count| **count > 0).count();
+        let reached =
+            |kind: Kind| self.counts[kind as usize].iter().flatten().filter(|count| **count > 0).count();
         let names = |rule: fn(Option<Form>, Outcome) -> bool| -> Vec<String> {
             let those = self.pairs().filter(|(form, outcome)| rule(*form, *outcome));
             those.map(|(form, outcome)| format!("{} {outcome:?}", name(form))).collect()
@@ -264,10 +315,11 @@ impl Coverage {
         vec![
             format!("{all} of {of} (form, outcome) pairs reached; {}", self.summary()),
             format!(
-                "{} of these pairs by the original's own answers, {} in steps that read an operand outside the cells; \
-                 {NEW} that it cannot come to, and without {} of its {IN_THE_ORIGINAL}: {}",
-                reached(0),
-                reached(1),
+                "{} of these pairs by the original's own answers, {} in steps that read an operand outside the cells, {} in steps \
+                 that the fence stopped; {NEW} that it cannot come to, and without {} of its {IN_THE_ORIGINAL}: {}",
+                reached(Kind::Own),
+                reached(Kind::ReadOutside),
+                reached(Kind::Fenced),
                 CEASED,
                 names(ceased).join(", ")
             ),
@@ -276,10 +328,8 @@ impl Coverage {
 
     /// The count of forms reached, outcome by outcome.
     fn summary(&self) -> String {
-        let [own, outside] = &self.counts;
-        let reached = |column: usize| {
-            own.iter().zip(outside).filter(|(own, outside)| own[column] + outside[column] > 0).count()
-        };
+        let reached =
+            |column: usize| (0..self.forms.len()).filter(|form| self.times(*form, column) > 0).count();
         let r: Vec<usize> = (0..OUTCOMES.len()).map(reached).collect();
         format!(
             "forms reached: done {}, done with interrupt {}, codes 1 to 5 entered {}/{}/{}/{}/{}, \

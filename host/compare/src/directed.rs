@@ -5,6 +5,7 @@ mod calls;
 mod console;
 mod course;
 mod empty;
+mod fence;
 mod outside;
 mod rules;
 
@@ -28,7 +29,7 @@ pub struct Directed {
     after: Lent,
 }
 
-/// All of them, in a fixed order.
+/// All of machines without a fence, in a fixed order: the recorded list has them.
 pub fn cases() -> Vec<Directed> {
     let mut cases = course::cases();
     cases.extend(rules::cases());
@@ -42,8 +43,16 @@ pub fn cases() -> Vec<Directed> {
 
 /// The count of cases checked on the judge and on the other machine.
 pub fn check(harness: &mut Harness) -> Result<usize, String> {
-    let cases = cases();
-    for directed in &cases {
+    check_each(harness, &cases())
+}
+
+/// The same of those with a fence.
+pub fn check_fenced(harness: &mut Harness) -> Result<usize, String> {
+    check_each(harness, &fence::cases())
+}
+
+fn check_each(harness: &mut Harness, cases: &[Directed]) -> Result<usize, String> {
+    for directed in cases {
         let name = &directed.name;
         let answers = harness.check(&directed.case).map_err(|why| format!("{name}: {why}"))?;
         if answers != directed.answers {

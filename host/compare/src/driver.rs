@@ -1,9 +1,11 @@
 //! The judge with one case after another put on it; only the cells that were used are emptied between them.
 
-use judge::{Judge, Ran, Step};
+use judge::{Judge, Step};
 use layout::cell::{self, EMPTY, is_instruction};
 use layout::{Cell, at, refusal};
 use list::{Answer, CELLS, Call, Case};
+
+use crate::taken;
 
 pub struct Driver {
     pub judge: Judge,
@@ -36,7 +38,7 @@ impl Driver {
     }
 
     pub fn step(&mut self) -> Step {
-        let step = self.judge.step();
+        let step = step(&mut self.judge);
         self.used.extend_from_slice(self.judge.changed());
         self.read_outside += u64::from(step.read_outside);
         step
@@ -53,9 +55,24 @@ impl Driver {
     }
 
     fn run(&mut self, budget: u64) -> Answer {
-        let Ran { stop, detail, steps, read_outside } = self.judge.run(budget);
-        self.read_outside += read_outside;
-        Answer { stop, detail, count: steps, ..Answer::DONE }
+        let mut answer = Answer::DONE;
+        while answer.count < budget {
+            let step = self.step();
+            if !step.completed {
+                return Answer { stop: step.stop, detail: step.detail, ..answer };
+            }
+            answer.count += 1;
+        }
+        answer
+    }
+}
+
+/// The judge's step; where its write would fall below the fence, it ends there. What is told apart from any machine is that place alone.
+pub fn step(judge: &mut Judge) -> Step {
+    let there = fetched(judge).and_then(|cell| taken::at_fence(judge.row(), judge.cells(), cell));
+    match there {
+        Some(there) => judge.step_to_fence(&there),
+        None => judge.step(),
     }
 }
 

@@ -1,7 +1,8 @@
 //! The judge and another machine, side by side: each call is made on both and everything lent is compared.
 //!
 //! Steps that read an operand outside the cells, and no others, are left out of the comparison with the original, which stops there:
-//! they are counted apart, and held to the original's stop with its own entry of code 5 after it (`Judge`).
+//! they are counted apart, and held to the original's stop with its own entry of code 5 after it (`Judge`). So are steps that a fence
+//! stops: where their write is due is told from the machine before (`taken`), and there the original's own entry of code 5 is made.
 //!
 //! A run is taken step by step, the other machine on a budget of 1, and then once more by the other machine on
 //! the whole budget. The judge's cells are compared as the numbers that it keeps; nothing is converted. The original does not count the
@@ -15,6 +16,7 @@ use list::{Answer, CELLS, Call, Case, Lent, Machine};
 
 use crate::coverage::Coverage;
 use crate::driver::{Driver, fetched};
+use crate::fence;
 use crate::invariants::{self, Before};
 use crate::taken;
 
@@ -27,6 +29,7 @@ pub struct Harness<'m> {
     lent: Lent,
     pub coverage: Coverage,
     pub taken: taken::Coverage,
+    pub fence: fence::Coverage,
     pub steps: u64,
     /// Of these, steps that read an operand outside the cells.
     pub read_outside: u64,
@@ -41,6 +44,7 @@ impl<'m> Harness<'m> {
             lent: Lent::zero(CELLS, 1, 0),
             coverage: Coverage::default(),
             taken: taken::Coverage::default(),
+            fence: fence::Coverage::default(),
             steps: 0,
             read_outside: 0,
             calls: 0,
@@ -113,6 +117,7 @@ impl<'m> Harness<'m> {
     fn step(&mut self) -> Result<Answer, String> {
         let before = self.before();
         let events = self.events(&before);
+        let written = self.written(&before);
         let [fetched, saved] = self.empty_around();
         let step = self.driver.step();
         self.steps += 1;
@@ -124,7 +129,10 @@ impl<'m> Harness<'m> {
         }
         self.compare()?;
         let judge = &self.driver.judge;
-        invariants::check(&before, &step, judge.row(), judge.cells(), judge.changed().len())?;
+        invariants::check(&before, &step, judge.row(), judge.cells(), judge.changed())?;
+        if before.row[at::FENCE] > 0 {
+            self.fence.count(&before.row, before.fetched, written, &step, judge.row());
+        }
         self.coverage.count(before.fetched, &step)?;
         self.taken.count(before.fetched, &events, &step)?;
         self.taken.count_around(fetched, saved && step.entered.is_some());
@@ -137,6 +145,15 @@ impl<'m> Harness<'m> {
     fn events(&self, before: &Before) -> Vec<taken::Event> {
         let judge = &self.driver.judge;
         before.fetched.map_or(Vec::new(), |cell| taken::events(judge.row(), judge.cells(), cell))
+    }
+
+    /// The address that the instruction of a machine with a fence writes, or would.
+    fn written(&self, before: &Before) -> Option<i64> {
+        let judge = &self.driver.judge;
+        before
+            .fetched
+            .filter(|_| before.row[at::FENCE] > 0)
+            .and_then(|cell| taken::written(judge.row(), judge.cells(), cell))
     }
 
     fn before(&self) -> Before {

@@ -13,16 +13,26 @@ pub struct Before {
     pub fetched: Option<Cell>,
 }
 
-pub fn check(before: &Before, step: &Step, row: &Row, cells: &[i64], changed: usize) -> Result<(), String> {
-    counts(before, step, row, changed)?;
+pub fn check(
+    before: &Before,
+    step: &Step,
+    row: &Row,
+    cells: &[i64],
+    changed: &[usize],
+) -> Result<(), String> {
+    counts(before, step, row, changed.len())?;
     if before.row[at::SR] & SUPERVISOR == 0 {
         console_kept(&before.row, row)?;
+        fence_kept(&before.row, step, changed)?;
         if row[at::SR] & SUPERVISOR != 0 {
             entered(step, row, cells)?;
         }
     }
-    if step.stop >= stop::OUTPUT_FULL && (before.row != *row || changed != 0) {
+    if step.stop >= stop::OUTPUT_FULL && (before.row != *row || !changed.is_empty()) {
         return Err("stop 6 or 7 changed the machine".into());
+    }
+    if before.row[at::FENCE] != row[at::FENCE] {
+        return Err("a step moved the fence".into());
     }
     Ok(())
 }
@@ -51,6 +61,18 @@ fn console_kept(before: &Row, after: &Row) -> Result<(), String> {
         return Ok(());
     }
     Err("a step begun with S clear changed the console".into())
+}
+
+/// A step begun with S clear changes no cell below the fence but 100 to 102, and those only where it enters the handler.
+fn fence_kept(before: &Row, step: &Step, changed: &[usize]) -> Result<(), String> {
+    let saved = |address: &usize| SAVES.iter().any(|save| *save as usize == *address);
+    let below = changed.iter().find(|address| {
+        (**address as i64) < before[at::FENCE] && !(saved(address) && step.entered.is_some())
+    });
+    match below {
+        None => Ok(()),
+        Some(address) => Err(format!("a step begun with S clear changed cell {address} below the fence")),
+    }
 }
 
 /// The step that sets S is completed and ends at pc 200, an instruction there, with cells 100 to 102 filled.

@@ -4,6 +4,7 @@ pub mod coverage;
 pub mod directed;
 pub mod driver;
 pub mod exercise;
+pub mod fence;
 pub mod harness;
 pub mod invariants;
 pub mod modes;

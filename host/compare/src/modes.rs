@@ -2,6 +2,8 @@
 
 use list::Case;
 
+use crate::coverage::{KINDS, WITHOUT_FENCE};
+use crate::fence;
 use crate::harness::Harness;
 use crate::rng::Rng;
 use crate::{directed, forms, pairs, programs, single, tags, words};
@@ -11,6 +13,8 @@ pub struct Size {
     pub singles: usize,
     pub programs: usize,
     pub pairs: usize,
+    /// Single steps with a fence, and a program with one for each five hundred of them.
+    pub fenced: usize,
     /// Exercise loads of 10,000 cells.
     pub loads: usize,
 }
@@ -18,12 +22,18 @@ pub struct Size {
 impl Size {
     /// About so many steps: two in three are single ones; a program takes about eight hundred.
     pub fn of(steps: usize) -> Self {
-        Self { singles: steps / 3 * 2, programs: steps / 2_400, pairs: steps / 600, loads: steps / 20_000 }
+        Self {
+            singles: steps / 3 * 2,
+            programs: steps / 2_400,
+            pairs: steps / 600,
+            fenced: steps / 8,
+            loads: steps / 20_000,
+        }
     }
 }
 
 /// About two million steps; a quarter of a minute on the plain interpreter.
-pub const CHECK: Size = Size { singles: 800_000, programs: 1_700, pairs: 4_000, loads: 300 };
+pub const CHECK: Size = Size { singles: 800_000, programs: 1_700, pairs: 4_000, fenced: 200_000, loads: 300 };
 
 /// Runs every mode; lines that say what was compared, or the first difference.
 pub fn all(harness: &mut Harness, size: &Size, seed: u64) -> Result<Vec<String>, String> {
@@ -35,23 +45,26 @@ pub fn all(harness: &mut Harness, size: &Size, seed: u64) -> Result<Vec<String>,
     let after_words = harness.steps;
     programs(harness, size.programs, seed)?;
     let user = pairs::check(&mut Rng::new(seed + 2), size.pairs, 300)?;
-    let mut missing = harness.coverage.missing(1);
-    missing.extend(harness.taken.missing());
-    if !missing.is_empty() {
-        return Err(format!("{} pairs not reached: {}", missing.len(), missing.join(", ")));
-    }
+    let (after_programs, calls, outside) = (harness.steps, harness.calls, harness.read_outside);
+    reached(harness.coverage.missing(&WITHOUT_FENCE, 1))?;
+    let fenced = directed::check_fenced(harness)?;
+    with_a_fence(harness, size.fenced, seed + 3)?;
+    reached(
+        [harness.coverage.missing(&KINDS, 1), harness.taken.missing(), harness.fence.missing()].concat(),
+    )?;
     let mut lines = vec![
         format!("{tags} cells: sound, encoding and cost as the original's types have them"),
-        format!("{directed} directed cases as written out by hand"),
+        format!("{directed} directed cases as written out by hand, and {fenced} with a fence"),
         format!(
             "{} steps and {} calls compared: single {after_singles}, words {}, programs {}; of these steps {} read an operand \
              outside the cells, and are held to the original's stop with its own entry of code 5 after it",
-            harness.steps,
-            harness.calls,
+            after_programs,
+            calls,
             after_words - after_singles,
-            harness.steps - after_words,
-            harness.read_outside
+            after_programs - after_words,
+            outside
         ),
+        harness.fence.told(),
         format!("{user} steps in user mode by two machines with different consoles, alike"),
     ];
     lines.extend(harness.coverage.told());
@@ -75,6 +88,25 @@ fn programs(harness: &mut Harness, count: usize, seed: u64) -> Result<(), String
         checked(harness, &programs::draw(&mut rng))?;
     }
     Ok(())
+}
+
+/// Single steps and programs with a fence.
+fn with_a_fence(harness: &mut Harness, singles: usize, seed: u64) -> Result<(), String> {
+    let (mut rng, draws) = (Rng::new(seed), fence::Singles::default());
+    for turn in 0..singles {
+        checked(harness, &draws.draw(&mut rng, turn))?;
+    }
+    for _ in 0..singles / 500 {
+        checked(harness, &fence::program(&mut rng))?;
+    }
+    Ok(())
+}
+
+fn reached(missing: Vec<String>) -> Result<(), String> {
+    if missing.is_empty() {
+        return Ok(());
+    }
+    Err(format!("{} pairs not reached: {}", missing.len(), missing.join(", ")))
 }
 
 /// A difference is told with the case it is found in, in the recorded list's form.

@@ -1,12 +1,13 @@
-//! Demand 3 on the judge itself: two machines with S clear, alike but for their consoles, stay alike.
+//! Demand 3 on the judge itself: two machines with S clear, alike but for their consoles, stay alike; their fences are equal.
 
 use judge::Judge;
 use layout::sr::SUPERVISOR;
 use layout::{Row, at, row};
 use list::Case;
 
-use crate::programs;
+use crate::driver::step;
 use crate::rng::Rng;
+use crate::{fence, programs};
 
 /// The count of steps that both took with S clear.
 pub fn check(rng: &mut Rng, programs: usize, most_steps: usize) -> Result<u64, String> {
@@ -15,6 +16,7 @@ pub fn check(rng: &mut Rng, programs: usize, most_steps: usize) -> Result<u64, S
     for _ in 0..programs {
         let mut one = programs::draw(rng);
         one.row[at::SR] &= !SUPERVISOR;
+        one.row[at::FENCE] = if rng.once_in(2) { fence::fence(rng) } else { 0 };
         let two = other_console(rng, &one);
         for (judge, case) in judges.iter_mut().zip([&one, &two]) {
             let lent = case.lent();
@@ -48,7 +50,7 @@ fn together([one, two]: &mut [Judge; 2], most_steps: usize) -> Result<u64, Strin
         if one.row()[at::SR] & SUPERVISOR != 0 {
             return Ok(taken);
         }
-        let steps = (one.step(), two.step());
+        let steps = (step(one), step(two));
         if steps.0 != steps.1 || shared(one.row()) != shared(two.row()) || one.cells() != two.cells() {
             return Err(format!("user mode: the two part: {steps:?}"));
         }

@@ -6,7 +6,7 @@ use layout::at;
 use layout::stop::{BUDGET_SPENT, OUTPUT_FULL};
 use list::{Call, Case, Lent, Plain, Recorded, Writer};
 
-use crate::coverage::Coverage;
+use crate::coverage::{Coverage, WITHOUT_FENCE};
 use crate::driver::{Driver, fetched};
 use crate::forms::*;
 use crate::rng::Rng;
@@ -49,7 +49,7 @@ pub fn list() -> Result<List, String> {
     recorder.worked_runs()?;
     recorder.for_runner()?;
     let of_plain = recorder.of_plain()?;
-    let missing = recorder.coverage.missing(EACH_PAIR);
+    let missing = recorder.coverage.missing(&WITHOUT_FENCE, EACH_PAIR);
     if !missing.is_empty() {
         return Err(format!("{} (form, outcome) pairs are not recorded: {missing:?}", missing.len()));
     }
@@ -131,7 +131,7 @@ impl Recorder {
             if self.coverage.count(cell, &step)? <= EACH_PAIR {
                 self.case(&case)?;
             }
-            if turn % 100_000 == 0 && self.coverage.missing(EACH_PAIR).is_empty() {
+            if turn % 100_000 == 0 && self.coverage.missing(&WITHOUT_FENCE, EACH_PAIR).is_empty() {
                 return Ok(());
             }
         }

@@ -1,11 +1,12 @@
-//! Words that a step takes from empty cells, and empty cells whose word it does not take (document 02, Card 2).
+//! Words that a step takes from empty cells, and empty cells whose word it does not take (document 02, Card 2); and where the fence stops it
+//! (Card 5).
 
 mod coverage;
 mod possible;
 mod trace;
 
 pub use coverage::Coverage;
-pub use trace::events;
+pub use trace::{at_fence, events, written};
 
 /// What a cell is asked for, or where it goes.
 #[derive(Clone, Copy, Debug, PartialEq, Eq, PartialOrd, Ord)]

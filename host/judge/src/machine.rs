@@ -37,6 +37,8 @@ pub struct Step {
     pub entered: Option<u64>,
     /// An operand was read outside the cells. The original stops there, and what is told here is not its answer: see `attempt`.
     pub read_outside: bool,
+    /// The fence stopped this step's write. The original has none: see `step_to_fence`.
+    pub fenced: bool,
 }
 
 #[derive(Clone, Copy, Debug, PartialEq, Eq)]
@@ -192,7 +194,25 @@ impl Judge {
         step
     }
 
-    /// Steps until one is not completed or the budget is spent.
+    /// A step that the fence stopped where these were its registers (document 02, Card 5): code 5 is raised there, by the original's own
+    /// entry. Its instruction wrote nothing before.
+    pub fn step_to_fence(&mut self, there: &Row) -> Step {
+        let before = self.row;
+        self.row = *there;
+        self.rebuild_row();
+        let Raised { stop, detail } = self.raise(INVALID_MEMORY_ACCESS).expect("a code");
+        let step = match stop {
+            stop::ENTERED => Step { entered: Some(INVALID_MEMORY_ACCESS), ..COMPLETED },
+            _ => stopped(stop, detail),
+        };
+        if stop == stop::CYCLES_FULL {
+            self.row = before;
+            self.rebuild_row();
+        }
+        Step { fenced: true, ..step }
+    }
+
+    /// Steps until one is not completed or the budget is spent; no fence is looked at.
     pub fn run(&mut self, budget: u64) -> Ran {
         self.changed.clear();
         let mut ran = Ran { stop: stop::BUDGET_SPENT, detail: 0, steps: 0, read_outside: 0 };
@@ -363,7 +383,7 @@ impl Judge {
             Some(cost) if added == cost => None,
             _ => Some(self.saved(INTERRUPT_EXCEPTION) as u64),
         };
-        Step { stop: stop::BUDGET_SPENT, detail: 0, completed: true, entered, read_outside: false }
+        Step { entered, ..COMPLETED }
     }
 
     /// An instruction of cost 1 that ends at the handler either jumped there or raised an exception: both add
@@ -454,8 +474,17 @@ fn instruction_of(flat: Flat) -> Option<Instruction> {
     Instruction::try_from(&decode(flat)?).ok()
 }
 
+const COMPLETED: Step = Step {
+    stop: stop::BUDGET_SPENT,
+    detail: 0,
+    completed: true,
+    entered: None,
+    read_outside: false,
+    fenced: false,
+};
+
 fn stopped(stop: u64, detail: u64) -> Step {
-    Step { stop, detail, completed: false, entered: None, read_outside: false }
+    Step { stop, detail, completed: false, ..COMPLETED }
 }
 
 fn stop_of(error: &ProcessorError) -> Step {

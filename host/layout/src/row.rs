@@ -3,7 +3,7 @@
 use crate::cell::{self, Cell};
 
 /// Numbers in a row.
-pub const ROW: usize = 16;
+pub const ROW: usize = 17;
 
 pub type Row = [i64; ROW];
 
@@ -21,6 +21,7 @@ pub mod at {
     pub const QUEUE_START: usize = 13;
     pub const QUEUE_COUNT: usize = 14;
     pub const OUTPUT_COUNT: usize = 15;
+    pub const FENCE: usize = 16;
 }
 
 /// The console's marks.
@@ -30,7 +31,7 @@ pub const MARKS: [usize; 3] = [at::ENABLE, at::FLAG, at::PENDING];
 pub const CONSOLE: [usize; 5] = [at::ENABLE, at::FLAG, at::QUEUE_START, at::QUEUE_COUNT, at::OUTPUT_COUNT];
 
 /// What can be out of range, in checking order; sr is any word.
-pub const RANGED: [usize; 11] = [
+pub const RANGED: [usize; 12] = [
     at::A,
     at::B,
     at::PC,
@@ -42,6 +43,7 @@ pub const RANGED: [usize; 11] = [
     at::QUEUE_START,
     at::QUEUE_COUNT,
     at::OUTPUT_COUNT,
+    at::FENCE,
 ];
 
 /// The place as a refusal and the recorded list have it, from 1.

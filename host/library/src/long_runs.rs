@@ -2,8 +2,8 @@
 //! words taken from empty cells with the plain interpreter's.
 
 use compare::driver::Driver;
-use compare::programs;
 use compare::rng::Rng;
+use compare::{fence, programs};
 use layout::stop::BUDGET_SPENT;
 use list::{Answer, Call, Case, Lent, Machine, Plain};
 use z33::Library;
@@ -19,7 +19,8 @@ pub fn check(seed: u64) -> Result<String, String> {
     let (mut rng, mut driver) = (Rng::new(seed), Driver::default());
     let (mut programs, mut steps, mut empty, mut ended) = (0, 0, 0, 0);
     for _ in 0..MOST_DRAWS {
-        let mut case = programs::draw(&mut rng);
+        // every other one with a fence
+        let mut case = if programs % 2 == 0 { programs::draw(&mut rng) } else { fence::program(&mut rng) };
         if programs >= PROGRAMS && ended > 0 {
             break;
         }

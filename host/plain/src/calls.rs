@@ -23,7 +23,7 @@ pub struct Raised {
 
 pub fn run(cells: &mut [i64], queue: &mut [u8], output: &mut [u8], row: &mut Row, budget: u64) -> Ran {
     let console = console_of(queue, output, row);
-    let mut machine = Machine { cells, console, state: state_of(row), empty: 0 };
+    let mut machine = Machine { cells, console, state: state_of(row), empty: 0, closed: 0 };
     let mut ran = Ran { stop: stop::BUDGET_SPENT, detail: 0, steps: 0, empty: 0 };
     while ran.steps < budget {
         match machine.step() {
@@ -103,6 +103,7 @@ fn state_of(row: &Row) -> State {
         sp: row[at::SP] as u32,
         sr: row[at::SR],
         cycles: row[at::CYCLES] as u64,
+        fence: row[at::FENCE] as u32,
     }
 }
 

@@ -114,7 +114,7 @@ impl Machine<'_> {
         self.put_result(y, f(register, amount))
     }
 
-    /// Word 1 is written before the register is set.
+    /// Word 1 is written before the register is set, which stays where that write is not made.
     fn fas(&mut self, x: Operand, y: Operand) -> Done {
         let address = self.address(x).ok_or(Fault::CellError)?;
         let cell = self.read(address)?;

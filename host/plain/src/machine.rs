@@ -33,6 +33,8 @@ pub struct Machine<'a> {
     pub state: State,
     /// Words that this step took from empty cells.
     pub empty: u64,
+    /// This step's instruction may not write below here.
+    pub closed: u32,
 }
 
 #[derive(Clone, Copy)]
@@ -43,6 +45,7 @@ pub struct State {
     pub sp: u32,
     pub sr: i64,
     pub cycles: u64,
+    pub fence: u32,
 }
 
 impl Machine<'_> {
@@ -77,6 +80,7 @@ impl Machine<'_> {
 
     fn step_with_room(&mut self) -> Result<(), Stop> {
         let pc = self.state.pc;
+        self.closed = if self.has(SUPERVISOR) { 0 } else { self.state.fence };
         match self.attempt() {
             Ok(spent) => {
                 self.state.cycles += spent;
@@ -136,9 +140,10 @@ impl Machine<'_> {
         read(self.cells, address).ok_or(Fault::Code(INVALID_MEMORY_ACCESS))
     }
 
-    /// A store outside the cells is code 5.
+    /// A store outside the cells is code 5, and so is one below the fence in a step begun with S clear (document 02, Card 5).
     pub fn write(&mut self, address: u32, cell: Cell) -> Result<(), Fault> {
-        if write(self.cells, address, cell) { Ok(()) } else { Err(Fault::Code(INVALID_MEMORY_ACCESS)) }
+        let written = address >= self.closed && write(self.cells, address, cell);
+        if written { Ok(()) } else { Err(Fault::Code(INVALID_MEMORY_ACCESS)) }
     }
 
     pub fn get(&self, reg: i64) -> Cell {
@@ -210,7 +215,7 @@ impl Machine<'_> {
     }
 }
 
-/// Exception entry without its cycle; false where cell 200 is no instruction.
+/// Exception entry without its cycle, which no fence stops; false where cell 200 is no instruction.
 pub fn enter(cells: &mut [i64], state: &mut State, code: u64) -> bool {
     if !read(cells, INTERRUPT_HANDLER).is_some_and(is_instruction) {
         return false;

@@ -28,7 +28,7 @@ pub struct Machine {
 
 impl Machine {
     /// A machine of 256 to 10,000 cells, all empty, with an input queue of 1 to 4,096 bytes and an output record of up to 65,536. Its
-    /// registers are 0, so it is in user mode.
+    /// registers are 0, so it is in user mode, and its fence is 0, so it may write every cell.
     pub fn new(cells: usize, queue: usize, output: usize) -> Result<Self, Refusal> {
         let mut machine = Machine {
             cells: vec![0; cell::LENGTH * cells.min(TOO_MANY)],
@@ -94,6 +94,37 @@ impl Machine {
             Register::Sp => Cell::Word(self.row[at::SP]),
             Register::Sr => Cell::Word(self.row[at::SR]),
         }
+    }
+
+    /// The fence: a program in user mode cannot write the cells below it.
+    pub fn fence(&self) -> u64 {
+        self.row[at::FENCE] as u64
+    }
+
+    /// Puts the fence at a cell, 0 to the count of cells, or leaves it where that is refused. Like sr, it is written by whoever boots the
+    /// machine: no instruction can.
+    ///
+    /// ```
+    /// use z33::{Cell, Exception, Machine, Stop};
+    ///
+    /// let mut machine = Machine::new(256, 1, 0)?;
+    /// machine.load(0, &[Cell::Instruction { tag: 25577, first: 0, second: 201 }])?; // st %a,[201]
+    /// machine.set_fence(202)?;
+    ///
+    /// // A new machine is in user mode.
+    /// assert_eq!(machine.run(1)?.stop, Stop::NoHandler(Exception::InvalidMemoryAccess));
+    /// assert_eq!(machine.cell(201)?, Cell::Empty);
+    /// assert_eq!(machine.set_fence(257).unwrap_err().to_string(), "the row's number 17 is out of its range");
+    /// # Ok::<(), z33::Refusal>(())
+    /// ```
+    pub fn set_fence(&mut self, fence: u64) -> Result<(), Refusal> {
+        let before = std::mem::replace(&mut self.row[at::FENCE], i64::try_from(fence).unwrap_or(i64::MAX));
+        // A run of no step tests the row.
+        let tested = self.run(0);
+        if tested.is_err() {
+            self.row[at::FENCE] = before;
+        }
+        tested.map(drop)
     }
 
     /// The cycles so far.

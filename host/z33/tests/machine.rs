@@ -51,7 +51,7 @@ fn each_refusal_has_its_number_and_words() {
         ),
         (lent::deliver(&mut [], &mut row, &[]), 2, "the queue is not 1 to 4,096 bytes"),
         (lent::drain(&[0; 65_537], &mut row, &mut []).map(drop), 3, "the output record is over 65,536 bytes"),
-        (lent::set_register(&mut row[1..], Register::A, 0), 4, "the row is not 16 numbers"),
+        (lent::set_register(&mut row[1..], Register::A, 0), 4, "the row is not 17 numbers"),
         (lent::set_register(&mut damaged, Register::A, 0), 4, "the row's number 1 is out of its range"),
         (lent::read_cell(&[[-1, 0, 0]; 256].concat(), 7).map(drop), 5, "the cell at 7 is damaged"),
         (m.deliver(b"12345"), 6, "more bytes than the queue has free places"),
@@ -187,6 +187,28 @@ fn raise_enters_or_stops() {
         assert_eq!(m.cell(102), Ok(Cell::Word(exception.code() as i64)));
     }
     assert_eq!(m.cycles(), 6);
+}
+
+#[test]
+fn the_fence_keeps_cells_from_user_mode() {
+    let mut m = machine(&[one(20102, 0, 0)]); // push %a
+    m.set_register(Register::Sp, 300).unwrap();
+    assert_eq!(m.fence(), 0);
+    m.set_fence(300).unwrap();
+    // The supervisor may.
+    assert_eq!(m.run(1).unwrap().steps, 1);
+    m.set_register(Register::Sr, 0).unwrap();
+    for (sp, due) in [(301, 1), (300, 0)] {
+        m.set_register(Register::Pc, 0).unwrap();
+        m.set_register(Register::Sp, sp).unwrap();
+        assert_eq!(m.run(1).unwrap().steps, due, "sp {sp}");
+    }
+    assert_eq!((m.register(Register::Sp), m.fence()), (Cell::Word(299), 300));
+    m.set_fence(2048).unwrap();
+    for fence in [2049, u64::MAX, i64::MAX as u64 + 1] {
+        assert_eq!(m.set_fence(fence), Err(Refusal::Row { place: 17 }));
+        assert_eq!(m.fence(), 2048);
+    }
 }
 
 #[test]

@@ -91,9 +91,9 @@ pub fn comes_with(form: Form, outcome: Outcome) -> bool {
         Entered(code::PRIVILEGED_INSTRUCTION) | Unhandled(code::PRIVILEGED_INSTRUCTION) => {
             two_words && op != CMP && m1 != IMM && (op != DIV || based(m1)) || carries
         }
-        // swap [%a],%a may read at 0 and write outside
+        // swap [%a],%a may read at 0 and write outside; 0 may lie below the fence, and so may what swap has put into pc or sp
         Entered(code::INVALID_MEMORY_ACCESS) | Unhandled(code::INVALID_MEMORY_ACCESS) => {
-            op == ST || m1 == IDX && op != IN || op == SWAP && m1 == IND
+            op == ST || m1 == IDX && op != IN || op == FAS && m1 == IND || op == SWAP && m1 >= DIR
         }
         Stopped(stop::CELL_ERROR, _) => match op {
             ST => based(m2),

@@ -15,20 +15,56 @@ use super::Way::{
 use crate::forms::*;
 
 /// The events of the step that fetches this instruction, in order.
-pub fn events(row: &Row, cells: &[i64], [tag, first, second]: Cell) -> Vec<Event> {
+pub fn events(row: &Row, cells: &[i64], fetched: Cell) -> Vec<Event> {
+    trace(row, cells, fetched).events
+}
+
+/// The registers where the fence stops the write of that step; none where it does not.
+pub fn at_fence(row: &Row, cells: &[i64], fetched: Cell) -> Option<Row> {
+    if closed(row) == 0 {
+        return None;
+    }
+    trace(row, cells, fetched).at_fence
+}
+
+/// The address that the step's instruction writes, or would but for the fence.
+pub fn written(row: &Row, cells: &[i64], fetched: Cell) -> Option<i64> {
+    trace(row, cells, fetched).written
+}
+
+/// No write below here; S is that of the step's beginning.
+fn closed(row: &Row) -> i64 {
+    if row[at::SR] & SUPERVISOR == 0 { row[at::FENCE] } else { 0 }
+}
+
+fn trace<'a>(row: &Row, cells: &'a [i64], [tag, first, second]: Cell) -> Trace<'a> {
     let (Form { op, m1, m2 }, (r1, r2)) = split(tag);
-    let mut trace = Trace { cells, row: *row, pushed: None, why_not: None, events: Vec::new() };
+    let mut trace = Trace {
+        cells,
+        row: *row,
+        closed: closed(row),
+        pushed: None,
+        written: None,
+        at_fence: None,
+        why_not: None,
+        events: Vec::new(),
+    };
     trace.row[at::PC] += 1;
     trace.instruction(op, (m1, r1, first), (m2, r2, second));
-    trace.events
+    trace
 }
 
 struct Trace<'a> {
     cells: &'a [i64],
     /// The registers, pc moved on.
     row: Row,
+    closed: i64,
     /// The cell that call has filled.
     pushed: Option<i64>,
+    /// Where the instruction writes.
+    written: Option<i64>,
+    /// The registers where the fence stopped it.
+    at_fence: Option<Row>,
     /// Why no more words are taken.
     why_not: Option<Reason>,
     events: Vec<Event>,
@@ -39,18 +75,19 @@ impl Trace<'_> {
         match op {
             CALL => {
                 self.push(word(self.row[at::PC]));
-                self.pushed = Some(self.row[at::SP]);
+                self.pushed = self.why_not.is_none().then_some(self.row[at::SP]);
                 self.word(x);
             }
             JMP..=JGT => {
                 self.why_not = (!self.jumps(op)).then_some(JumpNotTaken);
                 self.word(x);
             }
-            FAS | LD => {
+            LD => {
                 if let Some(cell) = self.cell(x) {
                     self.put(Into(y.1), y.1, cell);
                 }
             }
+            FAS => self.fas(x, y.1),
             IN => {
                 self.privileged();
                 self.address(Base, x);
@@ -87,7 +124,9 @@ impl Trace<'_> {
             }
             ST => {
                 self.word(x);
-                self.address(Base, y);
+                if let Some(address) = self.address(Base, y) {
+                    self.store(address, word(0));
+                }
             }
             SWAP => self.swap(x, y.1),
             op if TWO_WORDS.contains(&op) => {
@@ -95,6 +134,15 @@ impl Trace<'_> {
                 self.take(Register, self.register(y.1));
             }
             _ => {}
+        }
+    }
+
+    fn fas(&mut self, x: Operand, y: i64) {
+        let Some(address) = self.address(Base, x) else { return };
+        let Some(cell) = self.read(address) else { return };
+        self.store(address, word(1));
+        if self.at_fence.is_none() {
+            self.put(Into(y), y, cell);
         }
     }
 
@@ -198,6 +246,13 @@ impl Trace<'_> {
     }
 
     fn store(&mut self, address: i64, cell: Cell) {
+        if self.why_not.is_none() {
+            self.written = Some(address);
+            if address < self.closed {
+                self.at_fence = Some(self.row);
+                self.why_not = Some(Ended);
+            }
+        }
         if self.read(address).is_some() {
             self.carry(IntoMemory, cell);
         }
