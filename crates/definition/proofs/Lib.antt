@@ -16,3 +16,4 @@ pub mod Row
 pub mod Accepted
 pub mod Refused
 pub mod UserMode
+pub mod Budgets

@@ -14,3 +14,4 @@ pub mod Calls
 pub mod Course
 pub mod UserMode
 pub mod Accepted
+pub mod Budgets
