@@ -17,3 +17,4 @@ pub mod Accepted
 pub mod Refused
 pub mod UserMode
 pub mod Fence
+pub mod Budgets

@@ -15,3 +15,4 @@ pub mod Course
 pub mod UserMode
 pub mod Accepted
 pub mod Fence
+pub mod Budgets
