@@ -29,6 +29,7 @@ enum {
     CUT_CODE,                 /* raise: only 32 bits of the code count */
     CUT_ADDRESS,              /* read: only 32 bits of the address count */
     CUT_LENGTH,               /* set register: only 32 bits of the row's length count */
+    CUT_BUDGET,               /* run: only 32 bits of the budget count */
     BUDGET_LESS_ONE,          /* run: one step too few */
     NO_STEP,                  /* run: stop 0 before any step */
     STEPS_NEVER_TAKEN,        /* run: the steps are told, the machine is unmoved */
@@ -117,7 +118,7 @@ enum {
 };
 
 z33_done whole_z33_fresh(int64_t *, size_t, int64_t *, size_t);
-z33_ran whole_z33_run(int64_t *, size_t, uint8_t *, size_t, uint8_t *, size_t, int64_t *, size_t, uint32_t);
+z33_ran whole_z33_run(int64_t *, size_t, uint8_t *, size_t, uint8_t *, size_t, int64_t *, size_t, uint64_t);
 z33_done whole_z33_deliver(uint8_t *, size_t, int64_t *, size_t, const uint8_t *, size_t);
 z33_drained whole_z33_drain(const uint8_t *, size_t, int64_t *, size_t, uint8_t *, size_t);
 z33_cell whole_z33_read_cell(const int64_t *, size_t, uint64_t);
@@ -151,11 +152,12 @@ static int answered_before(z33_ran *ran, size_t cells_len, size_t queue_len) {
     return ran->refusal != 0;
 }
 
-static uint32_t other_budget(uint32_t budget) {
+static uint64_t other_budget(uint64_t budget) {
     switch (MUTANT) {
     case BUDGET_LESS_ONE: return budget > 0 ? budget - 1 : 0;
     case NO_STEP: case STEPS_NEVER_TAKEN: return 0;
     case FIRST_THEN_COUNTS: return budget > 0 ? 1 : 0;
+    case CUT_BUDGET: return (uint32_t)budget;
     default: return budget;
     }
 }
@@ -293,7 +295,7 @@ static void count_otherwise(int64_t form, const int64_t *cells, const int64_t *r
 }
 
 z33_ran z33_run(int64_t *cells, size_t cells_len, uint8_t *queue, size_t queue_len,
-                uint8_t *output, size_t output_len, int64_t *row, size_t row_len, uint32_t budget) {
+                uint8_t *output, size_t output_len, int64_t *row, size_t row_len, uint64_t budget) {
     z33_ran ran;
     if (answered_before(&ran, cells_len, queue_len)) {
         return ran;

@@ -69,6 +69,16 @@ static void other_calls(void) {
     due(z33_exercise(made, 5, 0).refusal == 9, "five numbers were taken for cells");
 }
 
+/* On 2^32 steps, whose lower 32 bits are 0, and on as many as there can be. */
+static void long_budgets(void) {
+    static const uint64_t budgets[] = {UINT64_C(1) << 32, UINT64_MAX};
+    for (int i = 0; i < 2; i++) {
+        start();
+        z33_ran ran = z33_run(cells, NUMBERS, queue, QUEUE, output, OUTPUT, row, ROW, budgets[i]);
+        due(ran.refusal == 0 && ran.stop == Z33_STOP_RESET && ran.steps == 1, "a budget of more than 32 bits");
+    }
+}
+
 /* A store by a step begun in user mode, below the fence and on it; and a fence that is none. */
 static void fence(void) {
     static const int64_t image[] = {25577, 0, 300}; /* st %a,[300] */
@@ -159,6 +169,7 @@ static void null_is_taken(void) {
 int main(void) {
     worked_run();
     other_calls();
+    long_budgets();
     fence();
     timer();
     as_text();

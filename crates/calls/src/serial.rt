@@ -11,7 +11,7 @@ ghost use Rattle.definition.specs.Accepted.{RowFits};
 
 // Where the first delivered byte goes: behind the unread ones, in a queue of q places.
 pub fn first_free(row: &[i64], q: usize) -> usize
-    requires { ⌜ (q ≤ 4096) × RowFits q 65536 (now row) ⌝ }
+    requires { ⌜ (q ≤ 4096) × RowFits q 65536 10000 (now row) ⌝ }
     ensures { λ r. ⌜ r ≡ around q (numberOfRow ROW-START (now (row .entry)) + numberOfRow ROW-COUNT (now (row .entry))) ⌝ }
 {
     let start = row::number_at(row, places::START) as usize;

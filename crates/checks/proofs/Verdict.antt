@@ -47,21 +47,21 @@ refused-by {d} {v} e h = ap passes (sym e) ∙ ne-eqb (d .refusal) 0 h
 
 -- ---- the row's tests
 
-row-numbered : (q o : ℕ) (row : List ℤ) → numbered (rowTests q o row) ≡ true
+row-numbered : (q o n : ℕ) (row : List ℤ) → numbered (rowTests q o n row) ≡ true
 unfolding rowTests lengthTest
-row-numbered q o row = refl
+row-numbered q o n row = refl
 
-pub row-then : (q o : ℕ) (row : List ℤ) (ts : List Test) → verdict (rowTests q o row ++ ts) ≡ cond (passes (verdict (rowTests q o row))) (verdict ts) (verdict (rowTests q o row))
-row-then q o row ts = verdict-then (rowTests q o row) ts (row-numbered q o row)
+pub row-then : (q o n : ℕ) (row : List ℤ) (ts : List Test) → verdict (rowTests q o n row ++ ts) ≡ cond (passes (verdict (rowTests q o n row))) (verdict ts) (verdict (rowTests q o n row))
+row-then q o n row ts = verdict-then (rowTests q o n row) ts (row-numbered q o n row)
 
-pub row-refused : (q o : ℕ) (row : List ℤ) (ts : List Test) → passes (verdict (rowTests q o row)) ≡ false → verdict (rowTests q o row) ≡ verdict (rowTests q o row ++ ts)
-row-refused q o row ts e = sym (row-then q o row ts ∙ ap (λ (b : Bool). cond b (verdict ts) (verdict (rowTests q o row))) e)
+pub row-refused : (q o n : ℕ) (row : List ℤ) (ts : List Test) → passes (verdict (rowTests q o n row)) ≡ false → verdict (rowTests q o n row) ≡ verdict (rowTests q o n row ++ ts)
+row-refused q o n row ts e = sym (row-then q o n row ts ∙ ap (λ (b : Bool). cond b (verdict ts) (verdict (rowTests q o n row))) e)
 
-pub row-passed : (q o : ℕ) (row : List ℤ) (ts : List Test) → passes (verdict (rowTests q o row)) ≡ true → verdict ts ≡ verdict (rowTests q o row ++ ts)
-row-passed q o row ts e = sym (row-then q o row ts ∙ ap (λ (b : Bool). cond b (verdict ts) (verdict (rowTests q o row))) e)
+pub row-passed : (q o n : ℕ) (row : List ℤ) (ts : List Test) → passes (verdict (rowTests q o n row)) ≡ true → verdict ts ≡ verdict (rowTests q o n row ++ ts)
+row-passed q o n row ts e = sym (row-then q o n row ts ∙ ap (λ (b : Bool). cond b (verdict ts) (verdict (rowTests q o n row))) e)
 
-pub row-accepted : (q o : ℕ) (row : List ℤ) {d : Done} → d ≡ verdict (rowTests q o row) → d .refusal ≡ 0 → RowFits q o row
-row-accepted q o row e h = row-fits q o row (verdict-passes (rowTests q o row) (row-numbered q o row) (passed-by e h))
+pub row-accepted : (q o n : ℕ) (row : List ℤ) {d : Done} → d ≡ verdict (rowTests q o n row) → d .refusal ≡ 0 → RowFits q o n row
+row-accepted q o n row e h = row-fits q o n row (verdict-passes (rowTests q o n row) (row-numbered q o n row) (passed-by e h))
 
 -- ---- tests on numbers
 

@@ -97,15 +97,21 @@ pub fn sound_at(row: &[i64], i: usize) -> bool
 }
 
 // "4. [...] its number at this place (from 1, the lowest such) is out of range": from enable on.
-pub fn console_numbers(row: &[i64], q: usize, o: usize) -> Done
-    requires { ⌜ (length (now row) ≡ ROW) × ((q ≤ 4096) × (o ≤ 65536)) ⌝ }
-    ensures { λ r. ⌜ r ≡ verdict (drop 6 (rowTests q o (now (row .entry)))) ⌝ }
+pub fn console_numbers(row: &[i64], q: usize, o: usize, n: usize) -> Done
+    requires { ⌜ (length (now row) ≡ ROW) × ((q ≤ 4096) × ((o ≤ 65536) × (n ≤ 10000))) ⌝ }
+    ensures { λ r. ⌜ r ≡ verdict (drop 6 (rowTests q o n (now (row .entry)))) ⌝ }
 {
+    let d = check(
+        below_at(row, places::FENCE, n as u64 + 1),
+        4,
+        places::ROW_FENCE,
+        accept(),
+    );
     let d = check(
         below_at(row, places::WRITTEN, o as u64 + 1),
         4,
         places::ROW_WRITTEN,
-        accept(),
+        d,
     );
     let d = check(
         below_at(row, places::COUNT, q as u64 + 1),
@@ -124,16 +130,16 @@ pub fn console_numbers(row: &[i64], q: usize, o: usize) -> Done
     check(is_mark_at(row, places::ENABLE), 4, places::ROW_ENABLE, d)
 }
 
-// "a damaged a or b counts at place 1 or 4": the whole row, if it is 16 long.
-pub fn row_numbers(row: &[i64], q: usize, o: usize) -> Done
-    requires { ⌜ (length (now row) ≡ ROW) × ((q ≤ 4096) × (o ≤ 65536)) ⌝ }
-    ensures { λ r. ⌜ r ≡ verdict (drop 1 (rowTests q o (now (row .entry)))) ⌝ }
+// "a damaged a or b counts at place 1 or 4": the whole row, if it is 17 long.
+pub fn row_numbers(row: &[i64], q: usize, o: usize, n: usize) -> Done
+    requires { ⌜ (length (now row) ≡ ROW) × ((q ≤ 4096) × ((o ≤ 65536) × (n ≤ 10000))) ⌝ }
+    ensures { λ r. ⌜ r ≡ verdict (drop 1 (rowTests q o n (now (row .entry)))) ⌝ }
 {
     let d = check(
         below_at(row, places::CYCLES, 0x8000_0000_0000_0000),
         4,
         places::ROW_CYCLES,
-        console_numbers(row, q, o),
+        console_numbers(row, q, o, n),
     );
     let d = check(address_at(row, places::SP), 4, places::ROW_SP, d);
     let d = check(address_at(row, places::PC), 4, places::ROW_PC, d);
@@ -141,13 +147,14 @@ pub fn row_numbers(row: &[i64], q: usize, o: usize) -> Done
     check(sound_at(row, places::A), 4, places::ROW_A, d)
 }
 
-// "4. The row is not 16 long, or its number at this place [...] is out of range"
-pub fn row_check(row: &[i64], q: usize, o: usize) -> Done
-    requires { ⌜ (q ≤ 4096) × (o ≤ 65536) ⌝ }
-    ensures { λ r. ⌜ r ≡ verdict (rowTests q o (now (row .entry))) ⌝ }
+// "4. The row is not 16 long, or its number at this place [...] is out of range", and "Refusal 4 now wants 17 numbers." The queue has q places, the
+// output record o, and there are n cells.
+pub fn row_check(row: &[i64], q: usize, o: usize, n: usize) -> Done
+    requires { ⌜ (q ≤ 4096) × ((o ≤ 65536) × (n ≤ 10000)) ⌝ }
+    ensures { λ r. ⌜ r ≡ verdict (rowTests q o n (now (row .entry))) ⌝ }
 {
     if row.len() == places::ROW {
-        row_numbers(row, q, o)
+        row_numbers(row, q, o, n)
     } else {
         Done {
             refusal: 4,

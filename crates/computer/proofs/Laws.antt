@@ -16,7 +16,7 @@ use Rattle.definition.specs.Memory.{cellCount}
 use Rattle.definition.specs.Registers.{refused, interruptEnable}
 use Rattle.definition.specs.Encoding.{Instruction}
 use Rattle.definition.specs.Exec.{Core, core, Res, ok, err, andThen, return}
-use Rattle.definition.specs.Instructions.{Request, execute}
+use Rattle.definition.specs.Instructions.{Request, nothing, execute}
 use Rattle.definition.specs.Runtime as M
 use Rattle.definition.specs.Runtime.{Machine, with-core, with-cycles, with-mark, uncounted, Executed, Run, runs}
 use Rattle.definition.specs.Accepted.{AcceptedMachine}
@@ -26,7 +26,7 @@ use Rattle.definition.proofs.Accepted.{OutcomeHas, Stepped, step-accepted, unco
 use Rattle.memory.proofs.Laws.{over-none}
 use Rattle.registers.specs.Meaning.{result, settled}
 use Rattle.stores.specs.declared.Made.{Made}
-use Rattle.stores.specs.Meaning.{planned, coreOf, unwritten}
+use Rattle.stores.specs.Meaning.{planned, coreOf, made, unwritten}
 use Rattle.encoding.specs.Meaning.{instrOf}
 use Rattle.console.specs.declared.ConsoleState.{ConsoleState}
 use Rattle.runtime.specs.declared.State.{State}
@@ -34,8 +34,8 @@ use Rattle.runtime.specs.declared.fetch.Fetched.{Fetched}
 use Rattle.runtime.specs.declared.perform.Served.{Served}
 use Rattle.runtime.specs.declared.arrive.Performed.{Performed}
 use Rattle.runtime.specs.declared.arrive.Arrival.{Arrival}
-use Rattle.runtime.specs.Meaning.{machineAt, effectsAt, unsent, turnOf, Fetches, performedRes, concluded, done, attempted, executedAt, servedTurn, Serves, Concludes, outcomeAt}
-use Rattle.runtime.proofs.Served.{serves-unwritten}
+use Rattle.runtime.specs.Meaning.{machineAt, guardOf, effectsAt, unsent, turnOf, Fetches, performedRes, concluded, done, attempted, executedAt, servedTurn, Serves, Concludes, outcomeAt}
+use Rattle.runtime.proofs.Served.{serves-made, serves-unwritten}
 use Rattle.computer.specs.Meaning.{NEAR, quiet}
 
 -- ---- fetch and execute
@@ -46,28 +46,33 @@ attempted-is cost (ok q c) = refl
 attempted-is cost (err e c) = refl
 
 -- the fetched instruction executed, where there is one
-abbrev pub requested : List ℤ → Fetched → Res Request
-requested l f = cond (f .ok) (executedAt l (f .s) (f .i)) (err (f .error) (core l (f .s)))
+abbrev pub requested : ℕ → List ℤ → Fetched → Res Request
+requested g l f = cond (f .ok) (executedAt g l (f .s) (f .i)) (err (f .error) (core l (f .s)))
 
-attempt-is : (l : List ℤ) (s : Registers) (f : Fetched) → Fetches l s f → attempted (f .i .cost) (requested l f) ≡ M.attempt (core l s)
+attempt-is : (g : ℕ) (l : List ℤ) (s : Registers) (f : Fetched) → Fetches l s f → attempted (f .i .cost) (requested g l f) ≡ M.attempt g (core l s)
 unfolding M.attempt andThen
-attempt-is l s f h = at (f .ok) ∙ ap then (h .is)
+attempt-is g l s f h = at (f .ok) ∙ ap then (h .is)
   where
     then : Res Instruction → Res Executed
-    then r = andThen r (λ (i : Instruction). (λ (c : Core). andThen (execute (i .op) (i .x) (i .y) (i .r₁) (i .r₂) c) (λ (q : Request). return (record { cost = i .cycles; request = q }))))
+    then r = andThen r (λ (i : Instruction). (λ (c : Core). andThen (execute g (i .op) (i .x) (i .y) (i .r₁) (i .r₂) c) (λ (q : Request). return (record { cost = i .cycles; request = q }))))
 
-    at : (b : Bool) → attempted (f .i .cost) (cond b (executedAt l (f .s) (f .i)) (err (f .error) (core l (f .s)))) ≡ then (result (instrOf (f .i)) b (f .error) (core l (f .s)))
-    at true = sym (attempted-is (f .i .cost) (executedAt l (f .s) (f .i)))
+    at : (b : Bool) → attempted (f .i .cost) (cond b (executedAt g l (f .s) (f .i)) (err (f .error) (core l (f .s)))) ≡ then (result (instrOf (f .i)) b (f .error) (core l (f .s)))
+    at true = sym (attempted-is (f .i .cost) (executedAt g l (f .s) (f .i)))
     at false = refl
 
 -- what is served where an instruction was fetched, and where none was
-module _ (l : List ℤ) (q : List ℕ) (size : ℕ) (k : ConsoleState) (f : Fetched) where
-  pub served-ok : f .ok ≡ true → (r : Served) → Serves l q size k (f .i .cost) (executedAt l (f .s) (f .i)) r → Serves l q size k (f .i .cost) (requested l f) r
+module _ (g : ℕ) (l : List ℤ) (q : List ℕ) (size : ℕ) (k : ConsoleState) (f : Fetched) where
+  pub served-ok : f .ok ≡ true → (r : Served) → Serves l q size k (f .i .cost) (executedAt g l (f .s) (f .i)) r → Serves l q size k (f .i .cost) (requested g l f) r
   served-ok h r v = rw h v
 
-  pub served-none : cellCount l ≤ 10000 → f .ok ≡ false → Serves l q size k (f .i .cost) (requested l f) (done (unwritten (settled (f .s) (refused (f .error)))) k)
+  pub served-none : cellCount l ≤ 10000 → f .ok ≡ false → Serves l q size k (f .i .cost) (requested g l f) (done (unwritten (settled (f .s) (refused (f .error)))) k)
   served-none few h =
       rw h (serves-unwritten l q size k (f .i .cost) (err (f .error) (core l (f .s))) few (settled (f .s) (refused (f .error))) refl)
+
+-- what an instruction made under the step's guard is what is served
+pub served-made : (l : List ℤ) (q : List ℕ) (size : ℕ) (m : State) (f : Fetched) → f .ok ≡ true → {g : ℕ} → g ≡ guardOf m → (d : Made) → made nothing l d ≡ executedAt g l (f .s) (f .i) → Serves l q size (m .k) (f .i .cost) (requested (guardOf m) l f) (done d (m .k))
+served-made l q size m f h e d v =
+    served-ok (guardOf m) l q size (m .k) f h _ (serves-made l q size (m .k) (f .i .cost) _ d (v ∙ ap (λ (n : ℕ). executedAt n l (f .s) (f .i)) e))
 
 -- ---- the step
 
@@ -103,49 +108,49 @@ module _ (l : List ℤ) (q o : List ℕ) (m : State) (f : Fetched) (h : Fetches 
   before = machineAt l q o m
 
   abbrev Served-is : Served → Type 0
-  Served-is r = Serves l q (length o) (m .k) (f .i .cost) (requested l f) r
+  Served-is r = Serves l q (length o) (m .k) (f .i .cost) (requested (guardOf m) l f) r
 
   turn-is : (r : Served) → Served-is r → servedTurn l q o before (f .i .cost) r ≡ M.turn before
-  unfolding M.turn
-  turn-is r v = v .is o refl (core l (m .s)) (m .cycles) ∙ ap (M.afterAttempt before) (attempt-is l (m .s) f h)
+  unfolding M.turn M.guard
+  turn-is r v = v .is o refl (core l (m .s)) (m .cycles) (m .fence) ∙ ap (M.afterAttempt before) (attempt-is (guardOf m) l (m .s) f h)
 
   pub full-step : (r : Served) → Served-is r → m .cycles < CYCLES-END → r .full ≡ true → M.stopped 6 0 before ≡ M.step before
   unfolding M.step M.settle M.reached
   full-step r v c t =
       sym (limit-below before (M.stopped 6 0 before) c)
-      ∙ ap (λ (b : Bool). M.limit before (M.settle (cond b (M.stops 6 0 before) (concluded l q o (r .e) (f .i .cost) (m .cycles))))) (sym t)
+      ∙ ap (λ (b : Bool). M.limit before (M.settle (cond b (M.stops 6 0 before) (concluded l q o (m .fence) (r .e) (f .i .cost) (m .cycles))))) (sym t)
       ∙ ap (λ (t : M.Turn). M.limit before (M.settle t)) (turn-is r v)
 
   -- far from stop 7 it is all one which machine that would leave
-  pub settled-step : (saved : State) → (NEAR ≤ m .cycles → saved ≡ m) → (e : Performed) → Served-is (record { full = false; e = e }) → (a : Arrival) → Concludes e (f .i .cost) (m .cycles) a → M.limit (machineAt l q o saved) (M.settle (turnOf l q o a)) ≡ M.step before
+  pub settled-step : (saved : State) → (NEAR ≤ m .cycles → saved ≡ m) → (e : Performed) → Served-is (record { full = false; e = e }) → (a : Arrival) → Concludes e (f .i .cost) (m .cycles) a → M.limit (machineAt l q o saved) (M.settle (turnOf l q o (m .fence) a)) ≡ M.step before
   unfolding M.step
   settled-step saved k e v a c =
-      ap (λ (x : M.Turn). M.limit (machineAt l q o saved) (M.settle x)) (c .is l q o)
+      ap (λ (x : M.Turn). M.limit (machineAt l q o saved) (M.settle x)) (c .is l q o (m .fence))
       ∙ go (ltb (m .cycles) NEAR) refl
       ∙ ap (λ (x : M.Turn). M.limit before (M.settle x)) (turn-is _ v)
     where
       went : M.Turn
-      went = concluded l q o e (f .i .cost) (m .cycles)
+      went = concluded l q o (m .fence) e (f .i .cost) (m .cycles)
 
       go : (b : Bool) → ltb (m .cycles) NEAR ≡ b → M.limit (machineAt l q o saved) (M.settle went) ≡ M.limit before (M.settle went)
       go true t =
           let n : m .cycles < NEAR = ltb-true _ _ t in
           let cheap = h .cheap in
-          let z = conclude-soon (f .i .cost) (effectsAt l q o (m .cycles) (e .f)) (performedRes l e) in
+          let z = conclude-soon (f .i .cost) (effectsAt l q o (m .fence) (m .cycles) (e .f)) (performedRes l e) in
           limit-below _ _ (omega arith) ∙ sym (limit-below _ _ (omega arith))
       go false t = ap (λ (x : State). M.limit (machineAt l q o x) (M.settle went)) (k (ltb-false _ _ t))
 
   -- the usual step
-  pub quiet-step : (d : Made) → Served-is (done d (m .k)) → d .ok ≡ true → quiet (m .k) (m .cycles + f .i .cost) ≡ true → M.completed (machineAt (planned l (d .p)) q o (record { s = d .p .s; cycles = m .cycles + f .i .cost; k = m .k })) ≡ M.step before
+  pub quiet-step : (d : Made) → Served-is (done d (m .k)) → d .ok ≡ true → quiet (m .k) (m .cycles + f .i .cost) ≡ true → M.completed (machineAt (planned l (d .p)) q o (record { s = d .p .s; cycles = m .cycles + f .i .cost; k = m .k; fence = m .fence })) ≡ M.step before
   unfolding M.step M.settle M.reached M.conclude M.poll
   quiet-step d v ok-is t =
       let p = quiet-parts (m .k .marks .pending) (ltb (m .cycles + f .i .cost) NEAR) t in
       let n : m .cycles + f .i .cost < NEAR = ltb-true _ _ (p .1) in
-      let after : Machine = machineAt (planned l (d .p)) q o (record { s = d .p .s; cycles = m .cycles + f .i .cost; k = m .k }) in
+      let after : Machine = machineAt (planned l (d .p)) q o (record { s = d .p .s; cycles = m .cycles + f .i .cost; k = m .k; fence = m .fence }) in
       let z : (interruptEnable (d .p .s) && m .k .marks .pending) ≡ false = ap (λ (b : Bool). interruptEnable (d .p .s) && b) (p .0) ∙ and-false (interruptEnable (d .p .s)) in
       sym (limit-below before (M.completed after) (omega arith))
       ∙ ap (λ (b : Bool). M.limit before (M.settle (cond b (M.enters HARDWARE-INTERRUPT (with-mark false after)) (M.completes after)))) (sym z)
-      ∙ ap (λ (b : Bool). M.limit before (M.settle (M.conclude (f .i .cost) (effectsAt l q o (m .cycles) (unsent (d .p) (m .k))) (result tt b (d .error) (coreOf l (d .p)))))) (sym ok-is)
+      ∙ ap (λ (b : Bool). M.limit before (M.settle (M.conclude (f .i .cost) (effectsAt l q o (m .fence) (m .cycles) (unsent (d .p) (m .k))) (result tt b (d .error) (coreOf l (d .p)))))) (sym ok-is)
       ∙ ap (λ (x : M.Turn). M.limit before (M.settle x)) (turn-is _ v)
     where
       quiet-parts : (a b : Bool) → (not a && b) ≡ true → (a ≡ false) × (b ≡ true)
@@ -156,9 +161,9 @@ module _ (l : List ℤ) (q o : List ℕ) (m : State) (f : Fetched) (h : Fetches 
       and-false true = refl
       and-false false = refl
 
-  pub quiet-unwritten : (d : Made) → cellCount l ≤ d .p .at → Served-is (done d (m .k)) → d .ok ≡ true → quiet (m .k) (m .cycles + f .i .cost) ≡ true → M.completed (machineAt l q o (record { s = d .p .s; cycles = m .cycles + f .i .cost; k = m .k })) ≡ M.step before
+  pub quiet-unwritten : (d : Made) → cellCount l ≤ d .p .at → Served-is (done d (m .k)) → d .ok ≡ true → quiet (m .k) (m .cycles + f .i .cost) ≡ true → M.completed (machineAt l q o (record { s = d .p .s; cycles = m .cycles + f .i .cost; k = m .k; fence = m .fence })) ≡ M.step before
   quiet-unwritten d out v ok-is t =
-      ap (λ (x : List ℤ). M.completed (machineAt x q o (record { s = d .p .s; cycles = m .cycles + f .i .cost; k = m .k }))) (sym (over-none l (d .p .at) (d .p .v) out))
+      ap (λ (x : List ℤ). M.completed (machineAt x q o (record { s = d .p .s; cycles = m .cycles + f .i .cost; k = m .k; fence = m .fence }))) (sym (over-none l (d .p .at) (d .p .v) out))
       ∙ quiet-step d v ok-is t
 
 -- ---- the run

@@ -21,7 +21,7 @@ quiet k n = not (k .marks .pending) && ltb n NEAR
 
 -- The state between two steps.
 abbrev pub uncountedState : State → State
-uncountedState m = record { s = with-empties 0 (m .s); cycles = m .cycles; k = m .k }
+uncountedState m = record { s = with-empties 0 (m .s); cycles = m .cycles; k = m .k; fence = m .fence }
 
 abbrev pub endedOf : List ℤ → List ℕ → List ℕ → Ended → Run
 endedOf l q o r = record { stop = r .stop; detail = r .detail; steps = r .steps; empty = r .empty; left = machineAt l q o (r .m) }

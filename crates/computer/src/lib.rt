@@ -19,7 +19,7 @@ const BUDGET_SPENT: u32 = 0;
 pub struct Ended {
     pub stop: u32,
     pub detail: u32,
-    pub steps: u32,
+    pub steps: u64,
     // The words taken from empty cells, over the completed steps.
     pub empty: u64,
     pub m: State,
@@ -49,10 +49,15 @@ fn is_quiet(k: ConsoleState, cycles: u64) -> bool
 }
 
 // A step that completes without exception entry.
-fn completes(s: Registers, cycles: u64, k: ConsoleState) -> Stepped
-    ensures { λ r. ⌜ r ≡ record { completed = true; stop = 0; detail = 0; m = record { s = s; cycles = cycles; k = k } } ⌝ }
+fn completes(s: Registers, cycles: u64, k: ConsoleState, fence: u32) -> Stepped
+    ensures { λ r. ⌜ r ≡ record { completed = true; stop = 0; detail = 0; m = record { s = s; cycles = cycles; k = k; fence = fence } } ⌝ }
 {
-    let m = State { s, cycles, k };
+    let m = State {
+        s,
+        cycles,
+        k,
+        fence,
+    };
     Stepped {
         completed: true,
         stop: 0,
@@ -86,18 +91,18 @@ pub fn step(cells: &mut [i64], queue: &[u8], output: &mut [u8], saved: State, m:
             }
             e = served.e;
         } else {
-            let d = instructions::execute(cells, t, op, x, y);
+            let d = instructions::execute(cells, runtime::guard(m), t, op, x, y);
             let p = d.p;
             let u = p.s;
             if d.ok {
                 if p.at == memory::NO_CELL {
                     if is_quiet(k, n) {
-                        return completes(u, n, k);
+                        return completes(u, n, k, m.fence);
                     }
                 } else {
                     if is_quiet(k, n) {
                         runtime::commit::write(cells, output, p, false, 0, false, 0, 0);
-                        return completes(u, n, k);
+                        return completes(u, n, k, m.fence);
                     }
                 }
             }
@@ -105,7 +110,7 @@ pub fn step(cells: &mut [i64], queue: &[u8], output: &mut [u8], saved: State, m:
         }
     }
     let a = runtime::arrive::conclude(e, i.cost, m.cycles);
-    runtime::settle::settle(cells, output, saved, a)
+    runtime::settle::settle(cells, output, saved, m.fence, a)
 }
 
 // The count of empty reads starts again with every step.
@@ -130,13 +135,13 @@ fn summed(empty: u64, counted: u64) -> u64
 }
 
 // Computer::run, on a budget. A step that stops counts nothing.
-pub fn run(cells: &mut [i64], queue: &[u8], output: &mut [u8], m: State, budget: u32) -> Ended
+pub fn run(cells: &mut [i64], queue: &[u8], output: &mut [u8], m: State, budget: u64) -> Ended
     requires { do ⌜ AcceptedMachine (machineAt (now cells) (now queue) (now output) m) ⌝ }
     ensures { λ r. ⌜ endedOf (now (cells .exit)) (now (queue .entry)) (now (output .exit)) r ≡ run budget (machineAt (now (cells .entry)) (now (queue .entry)) (now (output .entry)) m) ⌝ }
 {
     let mut saved = m;
     let mut t = m;
-    let mut steps: u32 = 0;
+    let mut steps: u64 = 0;
     let mut empty: u64 = 0;
     while steps < budget {
         let u = step(cells, queue, output, saved, t);

@@ -20,7 +20,7 @@ use Rattle.definition.specs.Registers.{interruptEnable}
 use Rattle.definition.specs.Io.{Console, with-marks, inputReady, status, readStatus, writeControl, around, readData, readPort, writeData, writePort, outputFull}
 use Rattle.definition.specs.Exec.{Core, Res, ok, err}
 use Rattle.definition.specs.Instructions.{Request, nothing, reads, writes, setRegister}
-use Rattle.definition.specs.Runtime.{Machine, with-core, with-cycles, with-console, with-mark, Executed, attempt, Turn, completes, enters, stops, ends, poll, conclude, serve, afterAttempt, turn, Outcome, completed, stopped, hasHandler, entered, recover, settle, reached, limit, step, Run, runs, uncounted, later, goOn, run}
+use Rattle.definition.specs.Runtime.{Machine, with-core, with-cycles, with-console, with-mark, Executed, attempt, Turn, completes, enters, stops, ends, poll, conclude, serve, afterAttempt, guard, turn, Outcome, completed, stopped, hasHandler, entered, recover, settle, reached, limit, step, Run, runs, uncounted, later, goOn, run}
 use Rattle.definition.specs.Calls.{Lent, lentMachine, lentOf, Called, passes, runCheck, ran, runRefused, runCall}
 use Rattle.definition.specs.UserMode.{Accepted}
 use Rattle.definition.specs.Accepted.{Sound, AcceptedCore, ConsoleIn, AcceptedMachine, laterCall, RunsAccepted}
@@ -81,7 +81,7 @@ write-in p w k h e = go (eqb p 110) (eqb p 111) refl
 
 -- what acceptance says, cycles aside
 pub record Both (m : Machine) : Type 0 where
-  pub core-in : AcceptedCore (m .core)
+  pub core-in : AcceptedCore (m .fence) (m .core)
   pub console-in : ConsoleIn (m .console)
 
 -- P holds of the machine, and a stop's number is not 0
@@ -95,7 +95,7 @@ OutcomeHas P (completed m) = P m
 OutcomeHas P (stopped n d m) = (1 ≤ n) × P m
 
 -- one part changed
-both-core : (m : Machine) (c : Core) → Both m → AcceptedCore c → Both (with-core c m)
+both-core : (m : Machine) (c : Core) → Both m → AcceptedCore (m .fence) c → Both (with-core c m)
 both-core m c b f = record { core-in = f; console-in = b .console-in }
 
 both-cycles : (m : Machine) (n : ℕ) → Both m → Both (with-cycles n m)
@@ -126,19 +126,19 @@ poll-in m b = go (interruptEnable (m .core .regs) && m .console .marks .pending)
     go true = both-console m _ b (marks-in (m .console) _ (b .console-in))
     go false = b
 
-abbrev GoodAny : {X : Type 0} → Res X → Type 0
-GoodAny {X} r = Good AcceptedCore Sound (Unit {0}) (λ (q : Request). Unit {0}) any-laws (λ (x : X). Unit {0}) r
+abbrev GoodAny : {X : Type 0} → ℕ → Res X → Type 0
+GoodAny {X} f r = Good (AcceptedCore f) (λ (x : X). Unit {0}) r
 
-conclude-in : (cost : ℕ) (m : Machine) (r : Res (Unit {0})) → Both m → GoodAny r → TurnHas Both (conclude cost m r)
+conclude-in : (cost : ℕ) (m : Machine) (r : Res (Unit {0})) → Both m → GoodAny (m .fence) r → TurnHas Both (conclude cost m r)
 unfolding conclude
 conclude-in cost m (ok u c) b g = poll-in (with-cycles (m .cycles + cost) (with-core c m)) (both-cycles (with-core c m) _ (both-core m c b (g .1)))
 conclude-in cost m (err e c) b g = ends-in e (with-core c m) (both-core m c b g)
 
-serve-in : (m : Machine) (q : Request) (cost : ℕ) (c : Core) → Both m → AcceptedCore c → TurnHas Both (serve m q cost c)
+serve-in : (m : Machine) (q : Request) (cost : ℕ) (c : Core) → Both m → AcceptedCore (m .fence) c → TurnHas Both (serve m q cost c)
 unfolding serve
 serve-in m nothing cost c b f = conclude-in cost m (ok tt c) b (tt, f)
 serve-in m (reads p r) cost c b f =
-    conclude-in cost (with-console (readPort p (m .console) .1) m) (setRegister r (word (pos (readPort p (m .console) .0))) c) (both-console m _ b (read-in p (m .console) (b .console-in))) (k-set AcceptedCore Sound (Unit {0}) (λ (q : Request). Unit {0}) any-laws r _ (word-sound _) .at c f)
+    conclude-in cost (with-console (readPort p (m .console) .1) m) (setRegister r (word (pos (readPort p (m .console) .0))) c) (both-console m _ b (read-in p (m .console) (b .console-in))) (k-set 0 (AcceptedCore (m .fence)) Sound (Unit {0}) (λ (q : Request). Unit {0}) (any-laws 0 (m .fence)) r _ (word-sound _) .at c f)
 serve-in m (writes p w) cost c b f = go (outputFull p (m .console)) refl
   where
     go : (t : Bool) → outputFull p (m .console) ≡ t → TurnHas Both (cond t (stops OUTPUT-FULL 0 m) (conclude cost (with-console (writePort p w (m .console)) m) (ok tt c)))
@@ -146,7 +146,7 @@ serve-in m (writes p w) cost c b f = go (outputFull p (m .console)) refl
     go false e =
         conclude-in cost (with-console (writePort p w (m .console)) m) (ok tt c) (both-console m _ b (write-in p w (m .console) (b .console-in) e)) (tt, f)
 
-after-in : (m : Machine) (r : Res Executed) → Both m → GoodAny r → TurnHas Both (afterAttempt m r)
+after-in : (m : Machine) (r : Res Executed) → Both m → GoodAny (m .fence) r → TurnHas Both (afterAttempt m r)
 unfolding afterAttempt
 after-in m (ok x c) b g = serve-in m (x .request) (x .cost) c b (g .1)
 after-in m (err e c) b g = ends-in e (with-core c m) (both-core m c b g)
@@ -171,7 +171,7 @@ stepped m a = record { both = record { core-in = a .core-in; console-in = a .con
 
 pub uncounted-in : (m : Machine) → Stepped m → AcceptedMachine (uncounted m)
 uncounted-in m b =
-    record { core-in = any-laws .to-empties (m .core) (b .both .core-in) 0; cycles-in = b .cycles-in; console-in = b .both .console-in; none-counted = refl }
+    record { core-in = any-laws 0 (m .fence) .to-empties (m .core) (b .both .core-in) 0; cycles-in = b .cycles-in; console-in = b .both .console-in; none-counted = refl }
 
 limit-in : (m : Machine) → Stepped m → (o : Outcome) → OutcomeHas Both o → OutcomeHas Stepped (limit m o)
 unfolding limit reached
@@ -189,7 +189,7 @@ limit-in m a (stopped n d m') h = go (ltb (m' .cycles) CYCLES-END) refl
 pub step-stepped : (m : Machine) → Stepped m → OutcomeHas Stepped (step m)
 unfolding step turn
 step-stepped m a =
-    limit-in m a (settle (turn m)) (settle-in (turn m) (after-in m (attempt (m .core)) (a .both) (attempt-keeps AcceptedCore Sound (Unit {0}) (λ (q : Request). Unit {0}) any-laws (m .core) (a .both .core-in))))
+    limit-in m a (settle (turn m)) (settle-in (turn m) (after-in m (attempt (guard m) (m .core)) (a .both) (attempt-keeps (guard m) (AcceptedCore (m .fence)) Sound (Unit {0}) (λ (q : Request). Unit {0}) (any-laws (guard m) (m .fence)) (m .core) (a .both .core-in))))
 
 pub step-accepted : (m : Machine) → AcceptedMachine m → OutcomeHas Stepped (step m)
 step-accepted m a = step-stepped m (stepped m a)

@@ -28,16 +28,17 @@ use Rattle.definition.specs.Registers.{Reg, getReg, Put, assigned, refus
 use Rattle.definition.specs.Arguments.{Operand, none, imm, reg, dir, ind, idx, indexed, resolve, resolved, readThere, cellThere, extractCell}
 use Rattle.definition.specs.Encoding as E
 use Rattle.definition.specs.Encoding.{Op, Extracted, instruction, noInstruction}
-use Rattle.definition.specs.Exec.{Core, with-regs, with-cells, Exec, Res, ok, err, andThen, _>>=_, _>>_, return, raise, branch, ask, change, orWord, takeWord, takeAddress, orAddress, orCell, orGiven, orPut, assign, read, write, checkPrivileged, below, push, pop}
+use Rattle.definition.specs.Exec.{Core, with-regs, with-cells, Exec, Res, ok, err, andThen, _>>=_, _>>_, return, raise, branch, ask, change, orWord, takeWord, takeAddress, orAddress, orCell, orGiven, orPut, assign, read, permits, write, checkPrivileged, below, push, pop}
 use Rattle.definition.specs.Instructions.{cellOf, wordOf, targetOf, registerWord, placeOf, setRegister, andFlags, signFlags, putResult, putWrapped, putCompared, putQuotient, putShifted, words, neg, notOp, jump, jumpIf, call, rtn, popOp, pushOp, ld, st, fas, swapBack, swap, rti, reset, Request, nothing, quiet, inOp, outOp, execute}
 use Rattle.definition.specs.Runtime.{orInstruction, fetch, Executed, attempt}
 use Rattle.definition.specs.Accepted.{Addr}
+use Rattle.definition.proofs.Verdict.{and-left, and-right}
 
 abbrev pub Any : {X : Type 0} → X → Type 0
 Any v = Unit {0}
 
--- I is kept. Cells in reach satisfy Sd, Loud holds where S is set, and what is asked of the console satisfies Q.
-pub record Laws (I : Core → Type 0) (Sd : Cell → Type 0) (Loud : Type 0) (Q : Request → Type 0) : Type 0 where
+-- I is kept by steps that may write from g on. Cells in reach satisfy Sd, Loud holds where S is set, and what is asked of the console satisfies Q.
+pub record Laws (g : ℕ) (I : Core → Type 0) (Sd : Cell → Type 0) (Loud : Type 0) (Q : Request → Type 0) : Type 0 where
   pub loud : (c : Core) → I c → supervisor (c .regs) ≡ true → Loud
   pub quietQ : Q nothing
   pub loudQ : Loud → (q : Request) → Q q
@@ -48,7 +49,7 @@ pub record Laws (I : Core → Type 0) (Sd : Cell → Type 0) (Loud : Type 0) (Q 
   pub pcA : (c : Core) → I c → Addr (c .regs .pc)
   pub spA : (c : Core) → I c → Addr (c .regs .sp)
   pub few : (c : Core) → I c → cellCount (c .cells) ≤ 10000
-  pub put : (c : Core) → I c → (n : ℕ) → n < cellCount (c .cells) → (v : Cell) → Sd v → I (with-cells (putCell (c .cells) n v) c)
+  pub put : (c : Core) → I c → (n : ℕ) → n < cellCount (c .cells) → g ≤ n → (v : Cell) → Sd v → I (with-cells (putCell (c .cells) n v) c)
   pub to-a : (c : Core) → I c → (v : Cell) → Sd v → I (with-regs (with-a v (c .regs)) c)
   pub to-b : (c : Core) → I c → (v : Cell) → Sd v → I (with-regs (with-b v (c .regs)) c)
   pub to-pc : (c : Core) → I c → (n : ℕ) → Addr n → I (with-regs (with-pc n (c .regs)) c)
@@ -102,17 +103,18 @@ unfolding below
 below-in zero h = omega arith
 below-in (suc n) h = omega arith
 
-module _ (I : Core → Type 0) (Sd : Cell → Type 0) (Loud : Type 0) (Q : Request → Type 0) (L : Laws I Sd Loud Q) where
-  abbrev pub Good : {X : Type 0} → (X → Type 0) → Res X → Type 0
-  Good P (ok v c) = P v × I c
-  Good P (err e c) = I c
+-- what is known of a result
+abbrev pub Good : (I : Core → Type 0) {X : Type 0} → (X → Type 0) → Res X → Type 0
+Good I P (ok v c) = P v × I c
+Good I P (err e c) = I c
 
+module _ (g : ℕ) (I : Core → Type 0) (Sd : Cell → Type 0) (Loud : Type 0) (Q : Request → Type 0) (L : Laws g I Sd Loud Q) where
   pub record Keeps {X : Type 0} (P : X → Type 0) (m : Exec X) : Type 0 where
-    pub at : (c : Core) → I c → Good P (m c)
+    pub at : (c : Core) → I c → Good I P (m c)
 
   -- ---- the monad
 
-  good-then : {X Y : Type 0} (P : X → Type 0) (R : Y → Type 0) (r : Res X) (k : X → Exec Y) → Good P r → ((v : X) → P v → Keeps R (k v)) → Good R (andThen r k)
+  good-then : {X Y : Type 0} (P : X → Type 0) (R : Y → Type 0) (r : Res X) (k : X → Exec Y) → Good I P r → ((v : X) → P v → Keeps R (k v)) → Good I R (andThen r k)
   unfolding andThen
   good-then P R (ok v c) k g h = h v (g .0) .at c (g .1)
   good-then P R (err e c) k g h = g
@@ -126,7 +128,7 @@ module _ (I : Core → Type 0) (Sd : Cell → Type 0) (Loud : Type 0) (Q : Reque
   raises : {X : Type 0} {P : X → Type 0} {e : Error} → Keeps P (raise {X = X} e)
   raises = record { at = λ c i. i }
 
-  good-branch : {X : Type 0} (P : X → Type 0) (b : Bool) (m n : Exec X) (c : Core) → (b ≡ true → Good P (m c)) → (b ≡ false → Good P (n c)) → Good P (branch b m n c)
+  good-branch : {X : Type 0} (P : X → Type 0) (b : Bool) (m n : Exec X) (c : Core) → (b ≡ true → Good I P (m c)) → (b ≡ false → Good I P (n c)) → Good I P (branch b m n c)
   unfolding branch
   good-branch P true m n c f g = f refl
   good-branch P false m n c f g = g refl
@@ -137,13 +139,13 @@ module _ (I : Core → Type 0) (Sd : Cell → Type 0) (Loud : Type 0) (Q : Reque
   changes : (f : Registers → Registers) → ((c : Core) → I c → I (with-regs (f (c .regs)) c)) → Keeps Any (change f)
   changes f h = record { at = λ c i. (tt, h c i) }
 
-  good-word : (w : Word) (e : Error) (c : Core) → I c → Good Any (orWord w e c)
+  good-word : (w : Word) (e : Error) (c : Core) → I c → Good I Any (orWord w e c)
   unfolding orWord counted
   good-word (Is w) e c i = (tt, i)
   good-word Empty e c i = (tt, L .to-empties c i _)
   good-word NotWord e c i = i
 
-  good-address : (a : Address) (e : Error) (c : Core) → AddressIn a → I c → Good Addr (orAddress a e c)
+  good-address : (a : Address) (e : Error) (c : Core) → AddressIn a → I c → Good I Addr (orAddress a e c)
   unfolding orAddress
   good-address (At n) e c h i = (h, i)
   good-address NotAddress e c h i = i
@@ -154,7 +156,7 @@ module _ (I : Core → Type 0) (Sd : Cell → Type 0) (Loud : Type 0) (Q : Reque
   Reaches P (Here v) = P v
   Reaches P Outside = Unit {0}
 
-  good-cell : (P : Cell → Type 0) (f : Found) (e : Error) (c : Core) → Reaches P f → I c → Good P (orCell f e c)
+  good-cell : (P : Cell → Type 0) (f : Found) (e : Error) (c : Core) → Reaches P f → I c → Good I P (orCell f e c)
   unfolding orCell
   good-cell P (Here v) e c h i = (h, i)
   good-cell P Outside e c h i = i
@@ -172,10 +174,10 @@ module _ (I : Core → Type 0) (Sd : Cell → Type 0) (Loud : Type 0) (Q : Reque
   k-read : (n : ℕ) (e : Error) → Keeps (λ (v : Cell). Sd v × (n < 10000)) (read n e)
   k-read n e = record { at = λ c i. good-cell _ (get (c .cells) n) e c (get-in c i n) i }
 
-  k-write : (n : ℕ) (v : Cell) → Sd v → Keeps Any (write n v)
-  unfolding write
+  k-write : (n : ℕ) (v : Cell) → Sd v → Keeps Any (write g n v)
+  unfolding write permits
   k-write n v s =
-      record { at = λ c i. good-branch Any (ltb n (cellCount (c .cells))) _ (raise InvalidMemoryAccess) c (λ h. (tt, L .put c i n (ltb→lt n _ (subst T (sym h) tt)) v s)) (λ h. i) }
+      record { at = λ c i. good-branch Any (permits g n (c .cells)) _ (raise InvalidMemoryAccess) c (λ h. (tt, L .put c i n (ltb→lt n _ (subst T (sym (and-left (ltb n (cellCount (c .cells))) (leb g n) h)) tt)) (leb→le g n (subst T (sym (and-right (ltb n (cellCount (c .cells))) (leb g n) h)) tt)) v s)) (λ h. i) }
 
   -- ---- registers
 
@@ -208,7 +210,7 @@ module _ (I : Core → Type 0) (Sd : Cell → Type 0) (Loud : Type 0) (Q : Reque
   GivesSd OutsideCells = Unit {0}
   GivesSd NoAddress = Unit {0}
 
-  good-given : (g : Given) (c : Core) → GivesSd g → I c → Good Sd (orGiven g c)
+  good-given : (g : Given) (c : Core) → GivesSd g → I c → Good I Sd (orGiven g c)
   unfolding orGiven
   good-given (Gives v) c h i = (h, i)
   good-given OutsideCells c h i = i
@@ -218,7 +220,7 @@ module _ (I : Core → Type 0) (Sd : Cell → Type 0) (Loud : Type 0) (Q : Reque
   Takes c (assigned s) = I (with-regs s c)
   Takes c (refused e) = Unit {0}
 
-  good-put : (p : Put) (c : Core) → Takes c p → I c → Good Any (orPut p c)
+  good-put : (p : Put) (c : Core) → Takes c p → I c → Good I Any (orPut p c)
   unfolding orPut
   good-put (assigned s) c h i = (tt, h)
   good-put (refused e) c h i = i
@@ -340,7 +342,7 @@ module _ (I : Core → Type 0) (Sd : Cell → Type 0) (Loud : Type 0) (Q : Reque
 
   -- ---- the instructions
 
-  k-push : (v : Cell) → Sd v → Keeps Any (push v)
+  k-push : (v : Cell) → Sd v → Keeps Any (push g v)
   unfolding push
   k-push v s =
       seq (changes (λ s. with-sp (below (s .sp)) s) (λ c i. L .to-sp c i _ (below-in _ (L .spA c i)))) (λ u h. seq {P = Any} (asks (λ s. s .sp) (λ c i. tt)) (λ n h. k-write n v s))
@@ -374,7 +376,7 @@ module _ (I : Core → Type 0) (Sd : Cell → Type 0) (Loud : Type 0) (Q : Reque
   unfolding notOp
   k-not r = seq (k-register r) (λ w h. k-assign _ (takes-result r _))
 
-  k-call : (x : Operand) → Keeps Any (call x)
+  k-call : (x : Operand) → Keeps Any (call g x)
   unfolding call
   k-call x = seq {P = Any} (asks (λ s. s .pc) (λ c i. tt)) (λ n h. seq (k-push _ (L .wordS _)) (λ u h. k-jump x))
 
@@ -386,7 +388,7 @@ module _ (I : Core → Type 0) (Sd : Cell → Type 0) (Loud : Type 0) (Q : Reque
   unfolding popOp
   k-popOp r = seq k-pop (λ v s. k-set r v s)
 
-  k-pushOp : (x : Operand) → Keeps Any (pushOp x)
+  k-pushOp : (x : Operand) → Keeps Any (pushOp g x)
   unfolding pushOp
   k-pushOp x = seq (k-cell x) (λ v s. k-push v s)
 
@@ -394,19 +396,19 @@ module _ (I : Core → Type 0) (Sd : Cell → Type 0) (Loud : Type 0) (Q : Reque
   unfolding ld
   k-ld x r = seq (k-cell x) (λ v s. k-set r v s)
 
-  k-st : (r : Reg) (y : Operand) → Keeps Any (st r y)
+  k-st : (r : Reg) (y : Operand) → Keeps Any (st g r y)
   unfolding st
   k-st r y = seq (k-register r) (λ w h. seq (k-place y) (λ n h. k-write n _ (L .wordS _)))
 
-  k-fas : (x : Operand) (r : Reg) → Keeps Any (fas x r)
+  k-fas : (x : Operand) (r : Reg) → Keeps Any (fas g x r)
   unfolding fas
   k-fas x r =
       seq (k-place x) (λ n h. seq (k-read n _) (λ v s. seq (k-write n _ (L .wordS _)) (λ u h. k-set r v (s .0))))
 
-  k-store : (x : Operand) (v : Cell) → Sd v → Keeps Any (placeOf x >>= (λ (n : ℕ). write n v))
+  k-store : (x : Operand) (v : Cell) → Sd v → Keeps Any (placeOf x >>= (λ (n : ℕ). write g n v))
   k-store x v s = seq (k-place x) (λ n h. k-write n v s)
 
-  k-swapBack : (x : Operand) (v : Cell) → Sd v → Keeps Any (swapBack x v)
+  k-swapBack : (x : Operand) (v : Cell) → Sd v → Keeps Any (swapBack g x v)
   unfolding swapBack
   k-swapBack none v s = raises
   k-swapBack (imm w) v s = raises
@@ -415,7 +417,7 @@ module _ (I : Core → Type 0) (Sd : Cell → Type 0) (Loud : Type 0) (Q : Reque
   k-swapBack (ind r) v s = k-store _ v s
   k-swapBack (idx r k) v s = k-store _ v s
 
-  k-swap : (x : Operand) (r : Reg) → Keeps Any (swap x r)
+  k-swap : (x : Operand) (r : Reg) → Keeps Any (swap g x r)
   unfolding swap
   k-swap x r =
       seq (k-cell x) (λ v s. seq (asks (getReg r) (reg-in r)) (λ old t. seq (k-set r v s) (λ u h. k-swapBack x old t)))
@@ -443,7 +445,7 @@ module _ (I : Core → Type 0) (Sd : Cell → Type 0) (Loud : Type 0) (Q : Reque
   unfolding outOp
   k-out x y = seq k-check (λ u l. seq (k-word x) (λ w h. seq (k-place y) (λ n h. pure (L .loudQ l _))))
 
-  k-execute : (o : Op) (x y : Operand) (r₁ r₂ : Reg) → Keeps Q (execute o x y r₁ r₂)
+  k-execute : (o : Op) (x y : Operand) (r₁ r₂ : Reg) → Keeps Q (execute g o x y r₁ r₂)
   unfolding execute
   k-execute E.ADD x y r₁ r₂ = k-quiet (k-words x r₂ _ (λ v w. takes-wrapped r₂ _))
   k-execute E.AND x y r₁ r₂ = k-quiet (k-words x r₂ _ (λ v w. takes-result r₂ _))
@@ -492,9 +494,9 @@ module _ (I : Core → Type 0) (Sd : Cell → Type 0) (Loud : Type 0) (Q : Reque
       (asks (λ s. s .pc) (λ c i. tt))
       (λ n h. seq (k-read n _) (λ v s. seq (changes (with-pc (suc n)) (λ c i. L .to-pc c i (suc n) (let l : n < 10000 = s .1 in omega arith))) (λ u h. k-instruction _)))
 
-  k-attempt : Keeps (λ (x : Executed). Q (x .request)) attempt
+  k-attempt : Keeps (λ (x : Executed). Q (x .request)) (attempt g)
   unfolding attempt
   k-attempt = seq k-fetch (λ i h. seq (k-execute _ _ _ _ _) (λ q h. pure h))
 
-  pub attempt-keeps : (c : Core) → I c → Good (λ (x : Executed). Q (x .request)) (attempt c)
+  pub attempt-keeps : (c : Core) → I c → Good I (λ (x : Executed). Q (x .request)) (attempt g c)
   attempt-keeps c i = k-attempt .at c i

@@ -10,6 +10,8 @@ pub mod AcceptedCore
 pub mod Step
 pub mod UserStep
 pub mod UserRun
+pub mod Writes
+pub mod Held
 pub mod Row
 pub mod Accepted
 pub mod Refused

@@ -10,7 +10,7 @@ use lib.Seq.{drop-cons}
 use lib.Dec.{leb, eqb}
 use borrow.Author.Tests.{ltb-true, leb-true, eqb-true, lt-ltb, le-leb, eq-eqb, ne-eqb}
 use Rattle.definition.specs.declared.Address.the-variants.{At, NotAddress}
-use Rattle.definition.specs.Constants.{CELLS-LEAST, CELLS-MOST, QUEUE-MOST, OUTPUT-MOST, CYCLES-END, ROW, ROW-PC, ROW-SP, ROW-SR, ROW-CYCLES, ROW-ENABLE, ROW-FLAG, ROW-PENDING, ROW-START, ROW-COUNT, ROW-WRITTEN}
+use Rattle.definition.specs.Constants.{CELLS-LEAST, CELLS-MOST, QUEUE-MOST, OUTPUT-MOST, CYCLES-END, ROW, ROW-PC, ROW-SP, ROW-SR, ROW-CYCLES, ROW-ENABLE, ROW-FLAG, ROW-PENDING, ROW-START, ROW-COUNT, ROW-WRITTEN, ROW-FENCE}
 use Rattle.definition.specs.Word.{eqZ, addressOf}
 use Rattle.definition.specs.Memory.{cell, cellCount, cellAt}
 use Rattle.definition.specs.Registers.{with-empties}
@@ -33,7 +33,7 @@ mark-back false = refl
 pub machine-back : (m : Machine) → m .core .regs .empties ≡ 0 → lentMachine (lentOf m) ≡ m
 unfolding machineOf rowOf
 machine-back m e =
-    λ i. machine (with-regs (with-empties (sym e i) (m .core .regs)) (m .core)) (m .cycles) (record { marks = marked (mark-back (m .console .marks .enable) i) (mark-back (m .console .marks .flag) i) (mark-back (m .console .marks .pending) i); queue = m .console .queue; start = m .console .start; count = m .console .count; output = m .console .output; written = m .console .written })
+    λ i. machine (with-regs (with-empties (sym e i) (m .core .regs)) (m .core)) (m .cycles) (record { marks = marked (mark-back (m .console .marks .enable) i) (mark-back (m .console .marks .flag) i) (mark-back (m .console .marks .pending) i); queue = m .console .queue; start = m .console .start; count = m .console .count; output = m .console .output; written = m .console .written }) (m .fence)
 
 -- ---- no cell damaged, by the lowest address and by each
 
@@ -112,10 +112,10 @@ mark-is false = refl
 
 -- ---- tests that passed
 
-pub row-fits : (q o : ℕ) (row : List ℤ) → Passes (rowTests q o row) → RowFits q o row
+pub row-fits : (q o n : ℕ) (row : List ℤ) → Passes (rowTests q o n row) → RowFits q o n row
 unfolding rowTests lengthTest
-row-fits q o row p =
-    let t = passed-at (rowTests q o row) p in
+row-fits q o n row p =
+    let t = passed-at (rowTests q o n row) p in
     record {
       long = eqb-true (length row) ROW (t 0);
       a-sound = t 1;
@@ -129,6 +129,7 @@ row-fits q o row p =
       start = below-in q (at ROW-START row) (t 9);
       count = below-in (suc q) (at ROW-COUNT row) (t 10);
       written = below-in (suc o) (at ROW-WRITTEN row) (t 11);
+      fence = below-in (suc n) (at ROW-FENCE row) (t 12);
     }
 
 pub cells-fit : (cells : List ℤ) → cellsTest cells .passed ≡ true → CellsFit cells
@@ -160,7 +161,7 @@ undamaged cells h = eqb-true (lowestDamaged 0 cells) (cellCount cells) h
 
 abbrev runTests : Lent → List Test
 runTests l =
-    cellsTest (l .cells) ∷ queueTest (l .queue) ∷ outputTest (l .output) ∷ (rowTests (length (l .queue)) (length (l .output)) (l .row) ++ damageTest (l .cells) ∷ [])
+    cellsTest (l .cells) ∷ queueTest (l .queue) ∷ outputTest (l .output) ∷ (rowTests (length (l .queue)) (length (l .output)) (cellCount (l .cells)) (l .row) ++ damageTest (l .cells) ∷ [])
 
 run-numbered : (l : Lent) → numbered (runTests l) ≡ true
 unfolding cellsTest queueTest outputTest lengthTest rowTests damageTest
@@ -170,13 +171,13 @@ pub run-passed : (l : Lent) → Accepted l → RunPassed l
 unfolding runCheck
 run-passed l h =
     let p = verdict-passes (runTests l) (run-numbered l) h in
-    let r : List Test = rowTests (length (l .queue)) (length (l .output)) (l .row) in
+    let r : List Test = rowTests (length (l .queue)) (length (l .output)) (cellCount (l .cells)) (l .row) in
     let d : List Test = damageTest (l .cells) ∷ [] in
     record {
       cells-fit = cells-fit (l .cells) (p .0);
       queue-fits = queue-fits (l .queue) (p .1 .0);
       output-most = output-fits (l .output) (p .1 .1 .0);
-      row-fits = row-fits (length (l .queue)) (length (l .output)) (l .row) (passes-left r d (p .1 .1 .1));
+      row-fits = row-fits (length (l .queue)) (length (l .output)) (cellCount (l .cells)) (l .row) (passes-left r d (p .1 .1 .1));
       undamaged = undamaged (l .cells) (passes-right r d (p .1 .1 .1) .0);
     }
 
@@ -192,6 +193,7 @@ accepted-machine l h =
         three = omega arith;
         low = c .least;
         high = c .most;
+        fenced = let b = r .fence .1 in omega arith;
         pcA = r .pc .1;
         spA = r .sp .1;
         aS = r .a-sound;
@@ -235,6 +237,7 @@ machine-accepted m a =
     & below-is _ _ (k .start-in)
     & below-is _ _ (let h = k .count-in in omega arith)
     & below-is _ _ (let h = k .written-in in omega arith)
+    & below-is _ _ (let h = f .fenced in omega arith)
     & eq-eqb _ _ d
     & tt
     ))
@@ -254,5 +257,5 @@ unfolding machineOf rowOf
 row-back l h =
     let f = run-passed l h .row-fits in
     let g : ℕ → ℤ = λ (i : ℕ). at i (l .row) in
-    (λ i. lent (l .cells) (l .queue) (l .output) (g 1 ∷ g 2 ∷ g 3 ∷ g 4 ∷ g 5 ∷ g 6 ∷ sym (f .pc .0) i ∷ sym (f .sp .0) i ∷ g ROW-SR ∷ sym (f .cycles .0) i ∷ f .enable i ∷ f .flag i ∷ f .pending i ∷ sym (f .start .0) i ∷ sym (f .count .0) i ∷ sym (f .written .0) i ∷ []))
+    (λ i. lent (l .cells) (l .queue) (l .output) (g 1 ∷ g 2 ∷ g 3 ∷ g 4 ∷ g 5 ∷ g 6 ∷ sym (f .pc .0) i ∷ sym (f .sp .0) i ∷ g ROW-SR ∷ sym (f .cycles .0) i ∷ f .enable i ∷ f .flag i ∷ f .pending i ∷ sym (f .start .0) i ∷ sym (f .count .0) i ∷ sym (f .written .0) i ∷ sym (f .fence .0) i ∷ []))
     ∙ ap (λ (r : List ℤ). lent (l .cells) (l .queue) (l .output) r) (sym (listed-is ROW 0 (l .row) (f .long)))

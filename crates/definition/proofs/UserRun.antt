@@ -7,7 +7,7 @@ use Rattle.definition.specs.Total.{total}
 use Rattle.definition.specs.Registers.{supervisor}
 use Rattle.definition.specs.Io.{Console}
 use Rattle.definition.specs.Runtime.{Machine, Outcome, completed, stopped, step, Run, runs, uncounted, later, goOn, run}
-use Rattle.definition.proofs.AcceptedCore.{User, user-laws}
+use Rattle.definition.proofs.AcceptedCore.{InUser, user-laws}
 use Rattle.definition.proofs.UserStep.{around, outcomeAround, step-is, Entered, Ends, stays, entry, OutcomeEnds, step-ends, entry-sets}
 
 abbrev pub runAround : Console → Run → Run
@@ -24,14 +24,14 @@ pub record Last (b : ℕ) (v : Machine) : Type 0 where
   pub last : Machine
   pub empty : ℕ
   pub before : run n v ≡ runs 0 0 n empty last
-  pub user : User (last .core)
+  pub user : InUser last
   pub reached : Machine
   pub entry : Entered last reached
   pub leaves : run b v .left ≡ uncounted reached
   pub steps : run b v .steps ≡ b
 
 pub data RunEnd (b : ℕ) (v : Machine) : Type 0 where
-  in-user : User (run b v .left .core) → RunEnd b v
+  in-user : InUser (run b v .left) → RunEnd b v
   entered : Last b v → RunEnd b v
 
 pub record RunIs (b : ℕ) (v : Machine) : Type 0 where
@@ -43,7 +43,7 @@ pub record RunIs (b : ℕ) (v : Machine) : Type 0 where
 abbrev told : Machine → ℕ
 told w = w .core .regs .empties
 
-run-suc : (b : ℕ) (k : Console) (v w : Machine) → User (v .core) → step v ≡ completed w → run (suc b) (around k v) ≡ later 1 (told w) (run b (around k (uncounted w)))
+run-suc : (b : ℕ) (k : Console) (v w : Machine) → InUser v → step v ≡ completed w → run (suc b) (around k v) ≡ later 1 (told w) (run b (around k (uncounted w)))
 unfolding run goOn
 run-suc b k v w u e = ap (λ (o : Outcome). goOn o (run b)) (step-is k v u ∙ ap (outcomeAround k) e)
 
@@ -55,11 +55,11 @@ later-around : (k : Console) (t : ℕ) (r : Run) → later 1 t (runAround k r) �
 unfolding later
 later-around k t r = refl
 
-run-left : (b : ℕ) (k : Console) (v w : Machine) → User (v .core) → step v ≡ completed w → run (suc b) (around k v) .left ≡ run b (around k (uncounted w)) .left
+run-left : (b : ℕ) (k : Console) (v w : Machine) → InUser v → step v ≡ completed w → run (suc b) (around k v) .left ≡ run b (around k (uncounted w)) .left
 unfolding later
 run-left b k v w u e = ap (λ (r : Run). r .left) (run-suc b k v w u e)
 
-within-suc : (b : ℕ) (k : Console) (v w : Machine) → User (v .core) → step v ≡ completed w → Within (suc b) (around k v) → Within b (around k (uncounted w))
+within-suc : (b : ℕ) (k : Console) (v w : Machine) → InUser v → step v ≡ completed w → Within (suc b) (around k v) → Within b (around k (uncounted w))
 within-suc b k v w u e h n l =
     ap (λ (m : Machine). supervisor (m .core .regs)) (sym (run-left n k v w u e)) ∙ h (suc n) (omega arith)
 
@@ -84,10 +84,10 @@ last-suc b v w e l =
 
 end-suc : (b : ℕ) (v w : Machine) → step v ≡ completed w → RunEnd b (uncounted w) → RunEnd (suc b) v
 unfolding later
-end-suc b v w e (in-user u) = in-user (subst (λ (r : Run). User (r .left .core)) (sym (user-suc b v w e)) u)
+end-suc b v w e (in-user u) = in-user (subst (λ (r : Run). InUser (r .left)) (sym (user-suc b v w e)) u)
 end-suc b v w e (entered l) = entered (last-suc b v w e l)
 
-is-suc : (b : ℕ) (v w : Machine) → User (v .core) → step v ≡ completed w → ((k : Console) → run b (around k (uncounted w)) ≡ runAround k (run b (uncounted w))) → (k : Console) → run (suc b) (around k v) ≡ runAround k (run (suc b) v)
+is-suc : (b : ℕ) (v w : Machine) → InUser v → step v ≡ completed w → ((k : Console) → run b (around k (uncounted w)) ≡ runAround k (run b (uncounted w))) → (k : Console) → run (suc b) (around k v) ≡ runAround k (run (suc b) v)
 is-suc b v w u e h k =
     run-suc b k v w u e ∙ ap (later 1 (told w)) (h k) ∙ later-around k (told w) (run b (uncounted w)) ∙ sym (ap (runAround k) (user-suc b v w e))
 
@@ -100,7 +100,7 @@ unfolding run
 left-zero m = refl
 
 -- the budget of one that enters
-enters-last : (v w : Machine) → User (v .core) → step v ≡ completed w → Entered v w → RunIs 1 v
+enters-last : (v w : Machine) → InUser v → step v ≡ completed w → Entered v w → RunIs 1 v
 unfolding run later
 enters-last v w u e en =
     let q = user-suc 0 v w e in
@@ -109,26 +109,26 @@ enters-last v w u e en =
       end = entered (record { n = 0; budget = refl; last = v; empty = 0; before = refl; user = u; reached = w; entry = en; leaves = ap (λ (r : Run). r .left) q; steps = ap (λ (r : Run). r .steps) q });
     }
 
-completed-is : (k₁ : Console) (b : ℕ) (v w : Machine) → User (v .core) → Within (suc b) (around k₁ v) → ((w : Machine) → User (w .core) → Within b (around k₁ w) → RunIs b w) → step v ≡ completed w → Ends v w → RunIs (suc b) v
+completed-is : (k₁ : Console) (b : ℕ) (v w : Machine) → InUser v → Within (suc b) (around k₁ v) → ((w : Machine) → InUser w → Within b (around k₁ w) → RunIs b w) → step v ≡ completed w → Ends v w → RunIs (suc b) v
 unfolding supervisor
 completed-is k₁ b v w u h ih e (stays u') =
-    let r = ih (uncounted w) (user-laws .to-empties (w .core) u' 0) (within-suc b k₁ v w u e h) in
+    let r = ih (uncounted w) (user-laws 0 (w .fence) .to-empties (w .core) u' 0) (within-suc b k₁ v w u e h) in
     record { is = is-suc b v w u e (r .is); end = end-suc b v w e (r .end) }
 completed-is k₁ zero v w u h ih e (entry en) = enters-last v w u e en
 completed-is k₁ (suc b) v w u h ih e (entry en) =
     absurd (true≢false (sym (entry-sets v w en) ∙ ap (λ (m : Machine). supervisor (m .core .regs)) (sym (run-left 0 k₁ v w u e ∙ left-zero (around k₁ (uncounted w)))) ∙ h 1 (omega arith)))
 
-outcome-is : (k₁ : Console) (b : ℕ) (v : Machine) → User (v .core) → Within (suc b) (around k₁ v) → ((w : Machine) → User (w .core) → Within b (around k₁ w) → RunIs b w) → (o : Outcome) → step v ≡ o → OutcomeEnds v o → RunIs (suc b) v
+outcome-is : (k₁ : Console) (b : ℕ) (v : Machine) → InUser v → Within (suc b) (around k₁ v) → ((w : Machine) → InUser w → Within b (around k₁ w) → RunIs b w) → (o : Outcome) → step v ≡ o → OutcomeEnds v o → RunIs (suc b) v
 unfolding run goOn
 outcome-is k₁ b v u h ih (completed w) e f = completed-is k₁ b v w u h ih e f
 outcome-is k₁ b v u h ih (stopped n d w) e f =
     let q : run (suc b) v ≡ runs n d 0 0 (uncounted w) = ap (λ (o : Outcome). goOn o (run b)) e in
     record {
       is = λ k. ap (λ (o : Outcome). goOn o (run b)) (step-is k v u ∙ ap (outcomeAround k) e) ∙ sym (ap (runAround k) q);
-      end = in-user (subst (λ (r : Run). User (r .left .core)) (sym q) (user-laws .to-empties (w .core) f 0));
+      end = in-user (subst (λ (r : Run). InUser (r .left)) (sym q) (user-laws 0 (w .fence) .to-empties (w .core) f 0));
     }
 
-pub user-run : (k₁ : Console) (b : ℕ) (v : Machine) → User (v .core) → Within b (around k₁ v) → RunIs b v
+pub user-run : (k₁ : Console) (b : ℕ) (v : Machine) → InUser v → Within b (around k₁ v) → RunIs b v
 unfolding run
 user-run k₁ zero v u h = record { is = λ k. run-zero k v; end = in-user u }
 user-run k₁ (suc b) v u h =

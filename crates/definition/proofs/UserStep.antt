@@ -16,12 +16,12 @@ use Rattle.definition.specs.Registers.{supervisor, interruptEnable}
 use Rattle.definition.specs.Io.{Console, with-marks, with-pending}
 use Rattle.definition.specs.Exec.{Core, with-cells, Res, ok, err}
 use Rattle.definition.specs.Instructions.{Request, nothing}
-use Rattle.definition.specs.Runtime.{Machine, with-core, with-cycles, with-console, with-mark, Executed, attempt, Turn, completes, enters, stops, ends, poll, conclude, serve, afterAttempt, turn, Outcome, completed, stopped, hasHandler, saved, enteredSr, enteredRegisters, enteredCore, entered, recover, settle, reached, limit, step}
+use Rattle.definition.specs.Runtime.{Machine, with-core, with-cycles, with-console, with-mark, Executed, attempt, Turn, completes, enters, stops, ends, poll, conclude, serve, afterAttempt, guard, turn, Outcome, completed, stopped, hasHandler, saved, enteredSr, enteredRegisters, enteredCore, entered, recover, settle, reached, limit, step}
 use Rattle.definition.specs.Accepted.{Sound, AcceptedCore}
 use Rattle.definition.proofs.Bits.{put-same, put-other}
 use Rattle.definition.proofs.Cells.{count-put, cell-same, cell-other}
 use Rattle.definition.proofs.Keeps.{Good, attempt-keeps}
-use Rattle.definition.proofs.AcceptedCore.{User, Silent, user-laws, accepted-put, with-registers, word-sound}
+use Rattle.definition.proofs.AcceptedCore.{User, InUser, Silent, user-laws, accepted-put, with-registers, word-sound}
 
 -- ---- a machine, and another console around it
 
@@ -44,11 +44,11 @@ outcomeAround k (stopped n d m) = stopped n d (around k m)
 
 -- ---- a user-mode step is the same step in every console
 
-abbrev GoodUser : Res Executed → Type 0
-GoodUser r = Good User Sound ⊥ Silent user-laws (λ (x : Executed). Silent (x .request)) r
+abbrev GoodUser : ℕ → Res Executed → Type 0
+GoodUser f r = Good (User f) (λ (x : Executed). Silent (x .request)) r
 
-pub attempt-user : (c : Core) → User c → GoodUser (attempt c)
-attempt-user = attempt-keeps User Sound ⊥ Silent user-laws
+pub attempt-user : (g f : ℕ) (c : Core) → User f c → GoodUser f (attempt g c)
+attempt-user g f = attempt-keeps g (User f) Sound ⊥ Silent (user-laws g f)
 
 ends-is : (k : Console) (e : Ending) (m : Machine) → ends e (around k m) ≡ turnAround k (ends e m)
 unfolding ends
@@ -64,19 +64,19 @@ poll-is k m = go (interruptEnable (m .core .regs) && m .console .marks .pending)
     go false = refl
 
 -- it asks nothing of the console
-serve-nothing : (m : Machine) (q : Request) (cost : ℕ) (c : Core) → Silent q → serve m q cost c ≡ poll (with-cycles (m .cycles + cost) (with-core c m))
+pub serve-nothing : (m : Machine) (q : Request) (cost : ℕ) (c : Core) → Silent q → serve m q cost c ≡ poll (with-cycles (m .cycles + cost) (with-core c m))
 unfolding serve conclude
 serve-nothing m q cost c e = ap (λ q. serve m q cost c) e
 
-after-is : (k : Console) (m : Machine) (r : Res Executed) → GoodUser r → afterAttempt (around k m) r ≡ turnAround k (afterAttempt m r)
+after-is : (k : Console) (m : Machine) (r : Res Executed) → GoodUser (m .fence) r → afterAttempt (around k m) r ≡ turnAround k (afterAttempt m r)
 unfolding afterAttempt
 after-is k m (ok x c) g =
     serve-nothing (around k m) (x .request) (x .cost) c (g .0) ∙ poll-is k (with-cycles (m .cycles + x .cost) (with-core c m)) ∙ sym (ap (turnAround k) (serve-nothing m (x .request) (x .cost) c (g .0)))
 after-is k m (err e c) g = ends-is k (ending e) (with-core c m)
 
-pub turn-is : (k : Console) (m : Machine) → User (m .core) → turn (around k m) ≡ turnAround k (turn m)
-unfolding turn
-turn-is k m u = after-is k m (attempt (m .core)) (attempt-user (m .core) u)
+pub turn-is : (k : Console) (m : Machine) → InUser m → turn (around k m) ≡ turnAround k (turn m)
+unfolding turn guard
+turn-is k m u = after-is k m (attempt (guard m) (m .core)) (attempt-user (guard m) (m .fence) (m .core) u)
 
 settle-is : (k : Console) (t : Turn) → settle (turnAround k t) ≡ outcomeAround k (settle t)
 unfolding settle recover entered
@@ -101,7 +101,7 @@ limit-is k m (stopped n d w) = go (ltb (w .cycles) CYCLES-END)
     go true = refl
     go false = refl
 
-pub step-is : (k : Console) (m : Machine) → User (m .core) → step (around k m) ≡ outcomeAround k (step m)
+pub step-is : (k : Console) (m : Machine) → InUser m → step (around k m) ≡ outcomeAround k (step m)
 unfolding step
 step-is k m u =
     ap (λ t. limit (around k m) (settle t)) (turn-is k m u) ∙ ap (limit (around k m)) (settle-is k (turn m)) ∙ limit-is k m (settle (turn m))
@@ -112,27 +112,27 @@ pub record Entered (m m' : Machine) : Type 0 where
   pub code : ℕ
   pub moment : Machine
   pub turns : turn m ≡ enters code moment
-  pub user : User (moment .core)
+  pub user : InUser moment
   pub small : code ≤ 5
   pub handler : hasHandler (moment .core .cells) ≡ true
   pub taken : code ≡ 0 → moment .console .marks .pending ≡ false
   pub leaves : m' ≡ entered code moment
 
 pub data Ends (m m' : Machine) : Type 0 where
-  stays : User (m' .core) → Ends m m'
+  stays : InUser m' → Ends m m'
   entry : Entered m m' → Ends m m'
 
 abbrev pub OutcomeEnds : Machine → Outcome → Type 0
 OutcomeEnds m (completed m') = Ends m m'
-OutcomeEnds m (stopped n d m') = User (m' .core)
+OutcomeEnds m (stopped n d m') = InUser m'
 
 -- what is known where a step arrives
 abbrev TurnEnds : Turn → Type 0
-TurnEnds (completes m) = User (m .core)
-TurnEnds (enters k m) = User (m .core) × ((k ≤ 5) × (k ≡ 0 → m .console .marks .pending ≡ false))
-TurnEnds (stops n d m) = User (m .core)
+TurnEnds (completes m) = InUser m
+TurnEnds (enters k m) = InUser m × ((k ≤ 5) × (k ≡ 0 → m .console .marks .pending ≡ false))
+TurnEnds (stops n d m) = InUser m
 
-ending-ends : (e : Error) (m : Machine) → User (m .core) → TurnEnds (ends (ending e) m)
+ending-ends : (e : Error) (m : Machine) → InUser m → TurnEnds (ends (ending e) m)
 unfolding ending ends
 ending-ends DivByZero m u = (u, (omega arith, λ h. absurd (omega arith)))
 ending-ends InvalidInstruction m u = (u, (omega arith, λ h. absurd (omega arith)))
@@ -146,7 +146,7 @@ ending-ends InvalidSp m u = u
 ending-ends InvalidSr m u = u
 ending-ends Reset m u = u
 
-poll-ends : (m : Machine) → User (m .core) → TurnEnds (poll m)
+poll-ends : (m : Machine) → InUser m → TurnEnds (poll m)
 unfolding poll
 poll-ends m u = go (interruptEnable (m .core .regs) && m .console .marks .pending)
   where
@@ -154,7 +154,7 @@ poll-ends m u = go (interruptEnable (m .core .regs) && m .console .marks .pendin
     go true = (u, (omega arith, λ h. refl))
     go false = u
 
-after-ends : (m : Machine) (r : Res Executed) → GoodUser r → TurnEnds (afterAttempt m r)
+after-ends : (m : Machine) (r : Res Executed) → GoodUser (m .fence) r → TurnEnds (afterAttempt m r)
 unfolding afterAttempt
 after-ends m (ok x c) g =
     subst TurnEnds (sym (serve-nothing m (x .request) (x .cost) c (g .0))) (poll-ends (with-cycles (m .cycles + x .cost) (with-core c m)) (g .1))
@@ -171,7 +171,7 @@ settle-ends m (enters k w) h e = go (hasHandler (w .core .cells)) refl
     go false t = e .0
 settle-ends m (stops n d w) h e = e
 
-limit-ends : (m : Machine) → User (m .core) → (o : Outcome) → OutcomeEnds m o → OutcomeEnds m (limit m o)
+limit-ends : (m : Machine) → InUser m → (o : Outcome) → OutcomeEnds m o → OutcomeEnds m (limit m o)
 unfolding limit reached
 limit-ends m u (completed w) e = go (ltb (w .cycles) CYCLES-END)
   where
@@ -184,10 +184,10 @@ limit-ends m u (stopped n d w) e = go (ltb (w .cycles) CYCLES-END)
     go true = e
     go false = u
 
-pub step-ends : (m : Machine) → User (m .core) → OutcomeEnds m (step m)
+pub step-ends : (m : Machine) → InUser m → OutcomeEnds m (step m)
 unfolding step turn
 step-ends m u =
-    limit-ends m u (settle (turn m)) (settle-ends m (turn m) refl (after-ends m (attempt (m .core)) (attempt-user (m .core) u)))
+    limit-ends m u (settle (turn m)) (settle-ends m (turn m) refl (after-ends m (attempt (guard m) (m .core)) (attempt-user (guard m) (m .fence) (m .core) u)))
 
 -- ---- what entry leaves
 
@@ -216,7 +216,7 @@ entered-supervisor zero w =
     put-other 8 false (putBit SUPERVISOR true w) (omega arith) 9 (λ e. omega arith) ∙ put-same 9 true w (omega arith)
 entered-supervisor (suc k) w = put-same 9 true w (omega arith)
 
-saved-accepted : (pc : ℕ) (sr : ℤ) (k : ℕ) (c : Core) → AcceptedCore c → AcceptedCore (with-cells (saved pc sr k (c .cells)) c)
+saved-accepted : {f : ℕ} (pc : ℕ) (sr : ℤ) (k : ℕ) (c : Core) → AcceptedCore f c → AcceptedCore f (with-cells (saved pc sr k (c .cells)) c)
 unfolding saved
 saved-accepted pc sr k c f =
     let l = f .low in
@@ -227,7 +227,7 @@ saved-accepted pc sr k c f =
     accepted-put _ f₂ 102 (omega arith) (word (pos k)) (word-sound _)
 
 -- whatever it saves
-pub entered-accepted : (k : ℕ) (c : Core) → AcceptedCore c → AcceptedCore (enteredCore k c)
+pub entered-accepted : {f : ℕ} (k : ℕ) (c : Core) → AcceptedCore f c → AcceptedCore f (enteredCore k c)
 unfolding enteredCore enteredRegisters
 entered-accepted k c f = with-registers _ _ (saved-accepted _ _ k c f) (omega arith) (f .spA) (f .aS) (f .bS)
 

@@ -9,7 +9,7 @@ use lib.IntN.{ℤ, pos, natAbs}
 use lib.ListN.{length}
 use Rattle.definition.specs.declared.Cell.{Cell}
 use Rattle.definition.specs.declared.Ran.{Ran}
-use Rattle.definition.specs.Constants.{CELLS-LEAST, CELLS-MOST, QUEUE-MOST, OUTPUT-MOST, CYCLES-END, ROW, ROW-A, ROW-B, ROW-PC, ROW-SP, ROW-CYCLES, ROW-ENABLE, ROW-FLAG, ROW-PENDING, ROW-START, ROW-COUNT, ROW-WRITTEN}
+use Rattle.definition.specs.Constants.{CELLS-LEAST, CELLS-MOST, QUEUE-MOST, OUTPUT-MOST, CYCLES-END, ROW, ROW-A, ROW-B, ROW-PC, ROW-SP, ROW-CYCLES, ROW-ENABLE, ROW-FLAG, ROW-PENDING, ROW-START, ROW-COUNT, ROW-WRITTEN, ROW-FENCE}
 use Rattle.definition.specs.Word.{eqZ}
 use Rattle.definition.specs.Total.{total}
 use Rattle.definition.specs.Memory.{cellCount, cellAt}
@@ -36,8 +36,8 @@ Below n z = (z ≡ pos (natAbs z)) × (natAbs z < n)
 abbrev pub IsMark : ℤ → Type 0
 IsMark z = mark (eqZ z (pos 1)) ≡ z
 
--- The row's tests with q places in the queue and o in the output record, passed.
-pub record RowFits (q o : ℕ) (row : List ℤ) : Type 0 where
+-- The row's tests with q places in the queue, o in the output record and n cells, passed.
+pub record RowFits (q o n : ℕ) (row : List ℤ) : Type 0 where
   pub long : length row ≡ ROW
   pub a-sound : Sound (cellOfRow ROW-A row)
   pub b-sound : Sound (cellOfRow ROW-B row)
@@ -50,6 +50,7 @@ pub record RowFits (q o : ℕ) (row : List ℤ) : Type 0 where
   pub start : Below q (at ROW-START row)
   pub count : Below (suc q) (at ROW-COUNT row)
   pub written : Below (suc o) (at ROW-WRITTEN row)
+  pub fence : Below (suc n) (at ROW-FENCE row)
 
 -- The cells' and the queue's lengths.
 pub record CellsFit (cells : List ℤ) : Type 0 where
@@ -66,14 +67,15 @@ pub record RunPassed (l : Lent) : Type 0 where
   pub cells-fit : CellsFit (l .cells)
   pub queue-fits : QueueFits (l .queue)
   pub output-most : length (l .output) ≤ OUTPUT-MOST
-  pub row-fits : RowFits (length (l .queue)) (length (l .output)) (l .row)
+  pub row-fits : RowFits (length (l .queue)) (length (l .output)) (cellCount (l .cells)) (l .row)
   pub undamaged : lowestDamaged 0 (l .cells) ≡ cellCount (l .cells)
 
--- The machine that such lent things hold.
-pub record AcceptedCore (c : Core) : Type 0 where
+-- The machine that such lent things hold, with the fence f.
+pub record AcceptedCore (f : ℕ) (c : Core) : Type 0 where
   pub three : length (c .cells) ≡ 3 * cellCount (c .cells)
   pub low : CELLS-LEAST ≤ cellCount (c .cells)
   pub high : cellCount (c .cells) ≤ CELLS-MOST
+  pub fenced : f ≤ cellCount (c .cells)
   pub pcA : Addr (c .regs .pc)
   pub spA : Addr (c .regs .sp)
   pub aS : Sound (c .regs .a)
@@ -89,7 +91,7 @@ pub record ConsoleIn (k : Console) : Type 0 where
   pub written-in : k .written ≤ length (k .output)
 
 pub record AcceptedMachine (m : Machine) : Type 0 where
-  pub core-in : AcceptedCore (m .core)
+  pub core-in : AcceptedCore (m .fence) (m .core)
   pub cycles-in : m .cycles < CYCLES-END
   pub console-in : ConsoleIn (m .console)
   -- Between steps nothing is counted: the row has no place for it.

@@ -12,7 +12,7 @@ use Rattle.definition.specs.declared.Ran.{Ran}
 use Rattle.definition.specs.declared.Drained.{Drained}
 use Rattle.definition.specs.declared.CellRead.{CellRead}
 use Rattle.definition.specs.declared.Raised.{Raised}
-use Rattle.definition.specs.Constants.{SUPERVISOR, CELLS-LEAST, CELLS-MOST, QUEUE-MOST, OUTPUT-MOST, CYCLES-END, ROW, ROW-A, ROW-B, ROW-PC, ROW-SP, ROW-SR, ROW-CYCLES, ROW-ENABLE, ROW-FLAG, ROW-PENDING, ROW-START, ROW-COUNT, ROW-WRITTEN}
+use Rattle.definition.specs.Constants.{SUPERVISOR, CELLS-LEAST, CELLS-MOST, QUEUE-MOST, OUTPUT-MOST, CYCLES-END, ROW, ROW-A, ROW-B, ROW-PC, ROW-SP, ROW-SR, ROW-CYCLES, ROW-ENABLE, ROW-FLAG, ROW-PENDING, ROW-START, ROW-COUNT, ROW-WRITTEN, ROW-FENCE}
 use Rattle.definition.specs.Word.{eqZ, addressOf, bit}
 use Rattle.definition.specs.Memory.{cell, empty, word, cellCount, cellAt}
 use Rattle.definition.specs.Encoding.{sound, isAddress}
@@ -50,12 +50,13 @@ machineOf cells queue output row =
     (core cells (record { a = cellOfRow ROW-A row; b = cellOfRow ROW-B row; pc = numberOfRow ROW-PC row; sp = numberOfRow ROW-SP row; sr = at ROW-SR row; empties = 0 }))
     (numberOfRow ROW-CYCLES row)
     (record { marks = marked (markOfRow ROW-ENABLE row) (markOfRow ROW-FLAG row) (markOfRow ROW-PENDING row); queue = queue; start = numberOfRow ROW-START row; count = numberOfRow ROW-COUNT row; output = output; written = numberOfRow ROW-WRITTEN row })
+    (numberOfRow ROW-FENCE row)
 
 unfoldable pub rowOf : Machine → List ℤ
 rowOf m =
     let s = m .core .regs in
     let k = m .console in
-    s .a .tag ∷ s .a .first ∷ s .a .second ∷ s .b .tag ∷ s .b .first ∷ s .b .second ∷ pos (s .pc) ∷ pos (s .sp) ∷ s .sr ∷ pos (m .cycles) ∷ mark (k .marks .enable) ∷ mark (k .marks .flag) ∷ mark (k .marks .pending) ∷ pos (k .start) ∷ pos (k .count) ∷ pos (k .written) ∷ []
+    s .a .tag ∷ s .a .first ∷ s .a .second ∷ s .b .tag ∷ s .b .first ∷ s .b .second ∷ pos (s .pc) ∷ pos (s .sp) ∷ s .sr ∷ pos (m .cycles) ∷ mark (k .marks .enable) ∷ mark (k .marks .flag) ∷ mark (k .marks .pending) ∷ pos (k .start) ∷ pos (k .count) ∷ pos (k .written) ∷ pos (m .fence) ∷ []
 
 -- ---- what is turned back (document 01's term): a test, and the number and place given where it fails
 
@@ -110,14 +111,14 @@ queueTest queue = test 2 0 (leb 1 (length queue) && leb (length queue) QUEUE-MOS
 unfoldable pub outputTest : List ℕ → Test
 outputTest output = test 3 0 (leb (length output) OUTPUT-MOST)
 
--- "4. The row is not 16 long"
+-- "4. The row is not 16 long", and "Refusal 4 now wants 17 numbers."
 unfoldable pub lengthTest : List ℤ → Test
 lengthTest row = test 4 0 (eqb (length row) ROW)
 
 -- "or its number at this place (from 1, the lowest such) is out of range; a damaged a or b counts at place 1 or 4." The queue has q places,
--- the output record o. "sr any word": no test.
-unfoldable pub rowTests : ℕ → ℕ → List ℤ → List Test
-rowTests q o row =
+-- the output record o, and there are n cells. "sr any word": no test.
+unfoldable pub rowTests : ℕ → ℕ → ℕ → List ℤ → List Test
+rowTests q o n row =
     lengthTest row
     ∷ test 4 ROW-A (sound (cellOfRow ROW-A row))
     ∷ test 4 ROW-B (sound (cellOfRow ROW-B row))
@@ -130,6 +131,7 @@ rowTests q o row =
     ∷ test 4 ROW-START (isBelow q (at ROW-START row))
     ∷ test 4 ROW-COUNT (isBelow (suc q) (at ROW-COUNT row))
     ∷ test 4 ROW-WRITTEN (isBelow (suc o) (at ROW-WRITTEN row))
+    ∷ test 4 ROW-FENCE (isBelow (suc n) (at ROW-FENCE row))
     ∷ []
 
 -- "5. The cell at this lowest address is damaged"
@@ -188,7 +190,7 @@ lentOf m = lent (m .core .cells) (m .console .queue) (m .console .output) (rowOf
 
 unfoldable pub runCheck : Lent → Done
 runCheck l =
-    verdict (cellsTest (l .cells) ∷ queueTest (l .queue) ∷ outputTest (l .output) ∷ (rowTests (length (l .queue)) (length (l .output)) (l .row) ++ damageTest (l .cells) ∷ []))
+    verdict (cellsTest (l .cells) ∷ queueTest (l .queue) ∷ outputTest (l .output) ∷ (rowTests (length (l .queue)) (length (l .output)) (cellCount (l .cells)) (l .row) ++ damageTest (l .cells) ∷ []))
 
 unfoldable pub ran : Run → Called Ran Lent
 ran r = called (answer accepted (r .stop) (r .detail) (r .steps) (r .empty)) (lentOf (r .left))
@@ -203,7 +205,7 @@ runCall budget l = cond (passes (runCheck l)) (ran (run budget (lentMachine l)))
 -- "deliver (queue, row)". "6. Delivered bytes exceed the queue's free places."
 unfoldable pub deliverCheck : List ℕ → List ℤ → List ℕ → Done
 deliverCheck queue row bytes =
-    verdict (queueTest queue ∷ (rowTests (length queue) OUTPUT-MOST row ++ test 6 0 (leb (numberOfRow ROW-COUNT row + length bytes) (length queue)) ∷ []))
+    verdict (queueTest queue ∷ (rowTests (length queue) OUTPUT-MOST CELLS-MOST row ++ test 6 0 (leb (numberOfRow ROW-COUNT row + length bytes) (length queue)) ∷ []))
 
 unfoldable pub deliveredRow : ℕ → List ℤ → List ℤ
 deliveredRow n row =
@@ -220,7 +222,7 @@ deliver queue row bytes =
 -- "drain (output, row)". "7. The drain buffer is shorter than the output count."
 unfoldable pub drainCheck : List ℕ → List ℤ → List ℕ → Done
 drainCheck output row buffer =
-    verdict (outputTest output ∷ (rowTests QUEUE-MOST (length output) row ++ test 7 0 (leb (numberOfRow ROW-WRITTEN row) (length buffer)) ∷ []))
+    verdict (outputTest output ∷ (rowTests QUEUE-MOST (length output) CELLS-MOST row ++ test 7 0 (leb (numberOfRow ROW-WRITTEN row) (length buffer)) ∷ []))
 
 -- "answers their count and sets the count to 0"
 unfoldable pub drain : List ℕ → List ℤ → List ℕ → Called Drained (List ℤ × List ℕ)
@@ -265,7 +267,7 @@ unfoldable pub isSettable : ℕ → ℤ → Bool
 isSettable r w = ltb r 2 || (ltb r 4 && isAddress (addressOf w))
 
 unfoldable pub setRegisterCheck : List ℤ → ℕ → ℤ → Done
-setRegisterCheck row r w = verdict (rowTests QUEUE-MOST OUTPUT-MOST row ++ test 10 0 (isSettable r w) ∷ [])
+setRegisterCheck row r w = verdict (rowTests QUEUE-MOST OUTPUT-MOST CELLS-MOST row ++ test 10 0 (isSettable r w) ∷ [])
 
 abbrev pub putCellOfRow : ℕ → Cell → List ℤ → List ℤ
 putCellOfRow i v row = put (i + 2) (v .second) (put (i + 1) (v .first) (put i (v .tag) row))
@@ -284,7 +286,7 @@ setRegister row r w =
 -- "11. The raised code is not 0 to 5."
 unfoldable pub raiseCheck : List ℤ → List ℤ → ℕ → Done
 raiseCheck cells row code =
-    verdict (cellsTest cells ∷ (rowTests QUEUE-MOST OUTPUT-MOST row ++ damageTest cells ∷ test 11 0 (leb code 5) ∷ []))
+    verdict (cellsTest cells ∷ (rowTests QUEUE-MOST OUTPUT-MOST (cellCount cells) row ++ damageTest cells ∷ test 11 0 (leb code 5) ∷ []))
 
 -- The machine of a call that is lent neither queue nor output record.
 abbrev pub quietMachine : List ℤ → List ℤ → Machine

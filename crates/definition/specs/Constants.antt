@@ -59,7 +59,7 @@ CYCLES-END = 2 ^ 63
 -- "Row of 16 numbers: a (3), b (3), pc, sp, sr, cycles [...], enable, flag, pending [...], queue start [...], queue count, output count": how
 -- many, and each one's place, from 1.
 abbrev pub ROW : ℕ
-ROW = 16
+ROW = 17
 
 abbrev pub ROW-A : ℕ
 ROW-A = 1
@@ -96,3 +96,7 @@ ROW-COUNT = 15
 
 abbrev pub ROW-WRITTEN : ℕ
 ROW-WRITTEN = 16
+
+-- "a seventeenth number, the fence"
+abbrev pub ROW-FENCE : ℕ
+ROW-FENCE = 17

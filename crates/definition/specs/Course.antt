@@ -8,7 +8,7 @@ use lib.IntN.{ℤ, pos, negsuc}
 use lib.ListN.{replicate}
 use Rattle.definition.specs.declared.Cell.{Cell}
 use Rattle.definition.specs.declared.Ran.{Ran}
-use Rattle.definition.specs.Constants.{ROW, ROW-A, ROW-B, ROW-PC, ROW-SP, ROW-SR, ROW-CYCLES, ROW-PENDING, ROW-WRITTEN}
+use Rattle.definition.specs.Constants.{ROW, ROW-FENCE, ROW-A, ROW-B, ROW-PC, ROW-SP, ROW-SR, ROW-CYCLES, ROW-PENDING, ROW-WRITTEN}
 use Rattle.definition.specs.Word.{smallest}
 use Rattle.definition.specs.Memory.{cell, empty, word, cellAt, putCell}
 use Rattle.definition.specs.Encoding.{tagOf}
@@ -36,22 +36,23 @@ pub record Case : Type 0 where
   pub sp : ℕ
   pub sr : ℤ
   pub pending : ℤ
+  pub fence : ℕ
   pub budget : ℕ
   pub look : ℕ
 
 abbrev case : ℕ → List Line → Cell → ℕ → ℕ → ℕ → ℕ → Case
 case n i a pc sp b k =
-    record { size = n; image = i; a = a; pc = pc; sp = sp; sr = pos 0; pending = pos 0; budget = b; look = k }
+    record { size = n; image = i; a = a; pc = pc; sp = sp; sr = pos 0; pending = pos 0; fence = 0; budget = b; look = k }
 
 -- with S set
 abbrev supervised : ℕ → List Line → ℕ → Case
 supervised n i k =
-    record { size = n; image = i; a = empty; pc = 0; sp = 0; sr = pos 512; pending = pos 0; budget = 1; look = k }
+    record { size = n; image = i; a = empty; pc = 0; sp = 0; sr = pos 512; pending = pos 0; fence = 0; budget = 1; look = k }
 
 -- with I set and the pending mark set
 abbrev interrupted : ℕ → List Line → ℕ → Case
 interrupted n i k =
-    record { size = n; image = i; a = empty; pc = 0; sp = 0; sr = pos 256; pending = pos 1; budget = 1; look = k }
+    record { size = n; image = i; a = empty; pc = 0; sp = 0; sr = pos 256; pending = pos 1; fence = 0; budget = 1; look = k }
 
 -- What is looked at afterwards: refusal, stop, detail, steps and empty reads; pc, sp, sr, cycles, pending mark and output count; a and b; and one cell.
 pub record Shown : Type 0 where
@@ -88,7 +89,7 @@ abbrev gives : Case → Shown → Row
 gives c s = record { given = c; expected = s }
 
 -- add 5,%a · reset · div n,%a · shl n,%a · shr n,%a · nop · push 7 · swap [%a],%a · fas [5],%sr · ld [10000],%a · ld [%a],%a · call [10000] · st %a,[10000] ·
--- in [110],%a · swap [%a],%b · rti · jeq %a
+-- in [110],%a · swap [%a],%b · rti · jeq %a · st %a,[30] · swap [30],%a · swap [30],%sr · fas [30],%a · call 40
 abbrev add5 : Cell
 add5 = cell (pos 202) (pos 5) (pos 0)
 
@@ -131,6 +132,21 @@ callOutside = inst 2 3 0 0 0 (pos 10000) (pos 0)
 abbrev stOutside : Cell
 stOutside = inst 28 2 3 0 0 (pos 0) (pos 10000)
 
+abbrev st30 : Cell
+st30 = inst 28 2 3 0 0 (pos 0) (pos 30)
+
+abbrev swap30 : Cell
+swap30 = inst 30 3 2 0 0 (pos 30) (pos 0)
+
+abbrev swapSr : Cell
+swapSr = inst 30 3 2 0 4 (pos 30) (pos 0)
+
+abbrev fas30 : Cell
+fas30 = inst 5 3 2 0 0 (pos 30) (pos 0)
+
+abbrev call40 : Cell
+call40 = inst 2 1 0 0 0 (pos 40) (pos 0)
+
 abbrev inStatus : Cell
 inStatus = inst 6 3 2 0 0 (pos 110) (pos 0)
 
@@ -142,6 +158,11 @@ jeqA = inst 8 2 0 0 0 (pos 0) (pos 0)
 
 abbrev one : Cell
 one = word (pos 1)
+
+-- A case with a fence: word 7 in a, word 9 in cell 30 and sp above it, and a handler
+abbrev fenced : ℤ → ℕ → Cell → ℕ → Case
+fenced sr f i k =
+    record { size = 256; image = line 0 i ∷ line 30 (word (pos 9)) ∷ line 200 nop ∷ []; a = word (pos 7); pc = 0; sp = 31; sr = sr; pending = pos 0; fence = f; budget = 1; look = k }
 
 unfoldable pub table : List Row
 table =
@@ -195,6 +216,29 @@ table =
     -- rti takes the words of cells 100 and 101; jeq %a, not taken, takes none
     ∷ gives (supervised 256 (line 0 rti ∷ []) 0) (took 2 (done 0 0 1 (pos 0) (pos 0) (pos 0) (pos 1) empty rti))
     ∷ gives (case 256 (line 0 jeqA ∷ []) empty 0 0 1 0) (done 0 0 1 (pos 1) (pos 0) (pos 0) (pos 1) empty jeqA)
+    -- "A write by st, swap, fas, push or call, in a step begun with S clear, to an address below the fence raises code 5 and leaves that cell":
+    -- of each a write of cell 30 with fence 31, then with fence 30
+    ∷ gives (fenced (pos 0) 31 st30 30) (done 0 0 1 (pos 200) (pos 31) (pos 512) (pos 1) (word (pos 7)) (word (pos 9)))
+    ∷ gives (fenced (pos 0) 30 st30 30) (done 0 0 1 (pos 1) (pos 31) (pos 0) (pos 2) (word (pos 7)) (word (pos 7)))
+    -- "What the instruction did earlier stays done": swap has set its register
+    ∷ gives (fenced (pos 0) 31 swap30 30) (done 0 0 1 (pos 200) (pos 31) (pos 512) (pos 1) (word (pos 9)) (word (pos 9)))
+    ∷ gives (fenced (pos 0) 30 swap30 30) (done 0 0 1 (pos 1) (pos 31) (pos 0) (pos 2) (word (pos 9)) (word (pos 7)))
+    -- fas sets its register after the write, so not at all
+    ∷ gives (fenced (pos 0) 31 fas30 30) (done 0 0 1 (pos 200) (pos 31) (pos 512) (pos 1) (word (pos 7)) (word (pos 9)))
+    ∷ gives (fenced (pos 0) 30 fas30 30) (done 0 0 1 (pos 1) (pos 31) (pos 0) (pos 2) (word (pos 9)) one)
+    -- push and call have moved sp
+    ∷ gives (fenced (pos 0) 31 push7 30) (done 0 0 1 (pos 200) (pos 30) (pos 512) (pos 1) (word (pos 7)) (word (pos 9)))
+    ∷ gives (fenced (pos 0) 30 push7 30) (done 0 0 1 (pos 1) (pos 30) (pos 0) (pos 1) (word (pos 7)) (word (pos 7)))
+    ∷ gives (fenced (pos 0) 31 call40 30) (done 0 0 1 (pos 200) (pos 30) (pos 512) (pos 1) (word (pos 7)) (word (pos 9)))
+    ∷ gives (fenced (pos 0) 30 call40 30) (done 0 0 1 (pos 40) (pos 30) (pos 0) (pos 1) (word (pos 7)) one)
+    -- "in a step begun with S clear": not with S set, nor where swap [30],%sr clears it before it writes
+    ∷ gives (fenced (pos 512) 31 st30 30) (done 0 0 1 (pos 1) (pos 31) (pos 512) (pos 2) (word (pos 7)) (word (pos 7)))
+    ∷ gives (fenced (pos 512) 31 swapSr 30) (done 0 0 1 (pos 1) (pos 31) (pos 9) (pos 2) (word (pos 7)) (word (pos 512)))
+    -- "Entry to the handler still writes cells 100 to 102": with the fence at "the count of cells"; one more is refused
+    ∷ gives (fenced (pos 0) 256 st30 102) (done 0 0 1 (pos 200) (pos 31) (pos 512) (pos 1) (word (pos 7)) (word (pos 5)))
+    ∷ gives
+    (fenced (pos 0) 257 st30 30)
+    (record { refusal = 4; stop = 0; detail = 0; steps = 0; empty = 0; pc = pos 0; sp = pos 31; sr = pos 0; cycles = pos 0; pending = pos 0; written = pos 0; a = word (pos 7); b = empty; there = word (pos 9) })
     -- "pc 9,999 fetches, 10,000 code 5"
     ∷ gives (case 10000 (line 9999 nop ∷ []) empty 9999 0 2 9999) (done 2 5 1 (pos 10000) (pos 0) (pos 0) (pos 1) empty nop)
     -- "The `ld [10000],%a` case becomes code 5"; "st to it: code 5"
@@ -214,7 +258,7 @@ lentCase c =
     (cellsOf (c .size) (c .image))
     (replicate 256 0)
     (replicate 4096 0)
-    (putCellOfRow ROW-A (c .a) (put ROW-PC (pos (c .pc)) (put ROW-SP (pos (c .sp)) (put ROW-SR (c .sr) (put ROW-PENDING (c .pending) (replicate ROW (pos 0)))))))
+    (putCellOfRow ROW-A (c .a) (put ROW-PC (pos (c .pc)) (put ROW-SP (pos (c .sp)) (put ROW-SR (c .sr) (put ROW-PENDING (c .pending) (put ROW-FENCE (pos (c .fence)) (replicate ROW (pos 0))))))))
 
 unfoldable pub shown : ℕ → Called Ran Lent → Shown
 shown look r =

@@ -1,10 +1,10 @@
 -- What an instruction works on, and how it fails. "`Result` and `?`: enums."
 -- The console is not in reach here: an instruction can only ask for it (`Request` in Instructions), so none can look at it.
-use mathlib.Core.Bool.{Bool, true, false}
+use mathlib.Core.Bool.{Bool, true, false, _&&_}
 use mathlib.Core.List.{List}
 use Prim.Native.Nat.{ℕ, zero, suc}
 use lib.IntN.{ℤ, pos}
-use lib.Dec.{ltb}
+use lib.Dec.{ltb, leb}
 use Rattle.definition.specs.declared.Cell.{Cell}
 use Rattle.definition.specs.declared.Registers.{Registers}
 use Rattle.definition.specs.declared.Word.{Word}
@@ -115,9 +115,14 @@ assign f = λ c. orPut (f (c .regs)) c
 abbrev pub read : ℕ → Error → Exec Cell
 read n e = λ c. orCell (get (c .cells) n) e c
 
--- Computer::write: "A store, swap's write, push, pop, fas or fetch outside is code 5."
-unfoldable pub write : ℕ → Cell → Exec (Unit {0})
-write n v = λ c. branch (ltb n (cellCount (c .cells))) (λ c. ok tt (with-cells (putCell (c .cells) n v) c)) (raise InvalidMemoryAccess) c
+-- May the address n be written? g is the first address that may: 0, or the fence "in a step begun with S clear".
+unfoldable pub permits : ℕ → ℕ → List ℤ → Bool
+permits g n l = ltb n (cellCount l) && leb g n
+
+-- Computer::write: "A store, swap's write, push, pop, fas or fetch outside is code 5." "A write by st, swap, fas, push or call, in a step
+-- begun with S clear, to an address below the fence raises code 5 and leaves that cell."
+unfoldable pub write : ℕ → ℕ → Cell → Exec (Unit {0})
+write g n v = λ c. branch (permits g n (c .cells)) (λ c. ok tt (with-cells (putCell (c .cells) n v) c)) (raise InvalidMemoryAccess) c
 
 -- Computer::check_privileged
 unfoldable pub checkPrivileged : Exec (Unit {0})
@@ -129,11 +134,11 @@ below zero = 4294967295
 below (suc n) = n
 
 -- Computer::push: "the push then raises code 5 and sp stays so"
-unfoldable pub push : Cell → Exec (Unit {0})
-push v = do
+unfoldable pub push : ℕ → Cell → Exec (Unit {0})
+push g v = do
   change (λ s. with-sp (below (s .sp)) s)
   n ← ask (λ s. s .sp)
-  write n v
+  write g n v
 
 -- Computer::pop: "pop and rtn read at sp (outside: code 5, sp unmoved), then move sp"
 unfoldable pub pop : Exec Cell

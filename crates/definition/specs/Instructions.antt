@@ -101,10 +101,10 @@ unfoldable pub jumpIf : (Bool → Bool → Bool) → Operand → Exec (Unit {0})
 jumpIf test x = λ c. branch (test (bit ZERO (c .regs .sr)) (bit NEGATIVE (c .regs .sr))) (jump x) (return tt) c
 
 -- "call pushes pc before it reads its operand."
-unfoldable pub call : Operand → Exec (Unit {0})
-call x = do
+unfoldable pub call : ℕ → Operand → Exec (Unit {0})
+call g x = do
   pc ← ask (λ s. s .pc)
-  push (word (pos pc))
+  push g (word (pos pc))
   jump x
 
 -- "pop and rtn [...] then move sp, and only then test the value or set the register."
@@ -119,10 +119,10 @@ popOp r = do
   v ← pop
   setRegister r v
 
-unfoldable pub pushOp : Operand → Exec (Unit {0})
-pushOp x = do
+unfoldable pub pushOp : ℕ → Operand → Exec (Unit {0})
+pushOp g x = do
   v ← cellOf x
-  push v
+  push g v
 
 -- "ld, push, pop, swap and fas carry a cell of any kind"
 unfoldable pub ld : Operand → Reg → Exec (Unit {0})
@@ -131,42 +131,42 @@ ld x r = do
   setRegister r v
 
 -- "st takes a word, so empty becomes word 0 and an instruction stops."
-unfoldable pub st : Reg → Operand → Exec (Unit {0})
-st r y = do
+unfoldable pub st : ℕ → Reg → Operand → Exec (Unit {0})
+st g r y = do
   w ← registerWord r
   n ← placeOf y
-  write n (word w)
+  write g n (word w)
 
 -- "fas writes word 1 before the register is set, so a refused register leaves the cell changed."
-unfoldable pub fas : Operand → Reg → Exec (Unit {0})
-fas x r = do
+unfoldable pub fas : ℕ → Operand → Reg → Exec (Unit {0})
+fas g x r = do
   n ← placeOf x
   v ← read n InvalidMemoryAccess
-  write n (word (pos 1))
+  write g n (word (pos 1))
   setRegister r v
 
 -- The second half of swap: the register's old cell goes to the operand, whose address is taken from the new registers.
-unfoldable pub swapBack : Operand → Cell → Exec (Unit {0})
-swapBack none v = raise CellError
-swapBack (imm w) v = raise CellError
-swapBack (reg r) v = setRegister r v
-swapBack (dir w) v = do
+unfoldable pub swapBack : ℕ → Operand → Cell → Exec (Unit {0})
+swapBack g none v = raise CellError
+swapBack g (imm w) v = raise CellError
+swapBack g (reg r) v = setRegister r v
+swapBack g (dir w) v = do
   n ← placeOf (dir w)
-  write n v
-swapBack (ind r) v = do
+  write g n v
+swapBack g (ind r) v = do
   n ← placeOf (ind r)
-  write n v
-swapBack (idx r k) v = do
+  write g n v
+swapBack g (idx r k) v = do
   n ← placeOf (idx r k)
-  write n v
+  write g n v
 
 -- "swap writes its register first and resolves the memory address from the new registers."
-unfoldable pub swap : Operand → Reg → Exec (Unit {0})
-swap x r = do
+unfoldable pub swap : ℕ → Operand → Reg → Exec (Unit {0})
+swap g x r = do
   v ← cellOf x
   old ← ask (getReg r)
   setRegister r v
-  swapBack x old
+  swapBack g x old
 
 -- "rti sets pc before it reads cell 101."
 unfoldable pub rti : Exec (Unit {0})
@@ -210,38 +210,38 @@ outOp x y = do
   port ← placeOf y
   return (writes port w)
 
--- Instruction::execute
-unfoldable pub execute : Op → Operand → Operand → Reg → Reg → Exec Request
-execute E.ADD x y r₁ r₂ = quiet (words x r₂ (λ v w. putWrapped r₂ (wrapped (v +ℤ w))))
-execute E.AND x y r₁ r₂ = quiet (words x r₂ (λ v w. putResult r₂ (andW v w)))
-execute E.CALL x y r₁ r₂ = quiet (call x)
-execute E.CMP x y r₁ r₂ = quiet (words x r₂ putCompared)
-execute E.DIV x y r₁ r₂ = quiet (words x r₂ (λ v w. putQuotient r₂ (quotient w v)))
-execute E.FAS x y r₁ r₂ = quiet (fas x r₂)
-execute E.IN x y r₁ r₂ = inOp x r₂
-execute E.JMP x y r₁ r₂ = quiet (jump x)
-execute E.JEQ x y r₁ r₂ = quiet (jumpIf (λ z n. z) x)
-execute E.JNE x y r₁ r₂ = quiet (jumpIf (λ z n. not z) x)
-execute E.JLE x y r₁ r₂ = quiet (jumpIf (λ z n. z || n) x)
-execute E.JLT x y r₁ r₂ = quiet (jumpIf (λ z n. not z && n) x)
-execute E.JGE x y r₁ r₂ = quiet (jumpIf (λ z n. z || not n) x)
-execute E.JGT x y r₁ r₂ = quiet (jumpIf (λ z n. not z && not n) x)
-execute E.LD x y r₁ r₂ = quiet (ld x r₂)
-execute E.MUL x y r₁ r₂ = quiet (words x r₂ (λ v w. putWrapped r₂ (wrapped (v *ℤ w))))
-execute E.NEG x y r₁ r₂ = quiet (neg r₁)
-execute E.NOP x y r₁ r₂ = quiet (return tt)
-execute E.NOT x y r₁ r₂ = quiet (notOp r₁)
-execute E.OR x y r₁ r₂ = quiet (words x r₂ (λ v w. putResult r₂ (orW v w)))
-execute E.OUT x y r₁ r₂ = outOp x y
-execute E.POP x y r₁ r₂ = quiet (popOp r₁)
-execute E.PUSH x y r₁ r₂ = quiet (pushOp x)
-execute E.RESET x y r₁ r₂ = quiet reset
-execute E.RTI x y r₁ r₂ = quiet rti
-execute E.RTN x y r₁ r₂ = quiet rtn
-execute E.SHL x y r₁ r₂ = quiet (words x r₂ (putShifted shlW r₂))
-execute E.SHR x y r₁ r₂ = quiet (words x r₂ (putShifted shrW r₂))
-execute E.ST x y r₁ r₂ = quiet (st r₁ y)
-execute E.SUB x y r₁ r₂ = quiet (words x r₂ (λ v w. putWrapped r₂ (wrapped (w -ℤ v))))
-execute E.SWAP x y r₁ r₂ = quiet (swap x r₂)
-execute E.TRAP x y r₁ r₂ = quiet (raise Trap)
-execute E.XOR x y r₁ r₂ = quiet (words x r₂ (λ v w. putResult r₂ (xorW v w)))
+-- Instruction::execute, where g is the first address that the step may write
+unfoldable pub execute : ℕ → Op → Operand → Operand → Reg → Reg → Exec Request
+execute g E.ADD x y r₁ r₂ = quiet (words x r₂ (λ v w. putWrapped r₂ (wrapped (v +ℤ w))))
+execute g E.AND x y r₁ r₂ = quiet (words x r₂ (λ v w. putResult r₂ (andW v w)))
+execute g E.CALL x y r₁ r₂ = quiet (call g x)
+execute g E.CMP x y r₁ r₂ = quiet (words x r₂ putCompared)
+execute g E.DIV x y r₁ r₂ = quiet (words x r₂ (λ v w. putQuotient r₂ (quotient w v)))
+execute g E.FAS x y r₁ r₂ = quiet (fas g x r₂)
+execute g E.IN x y r₁ r₂ = inOp x r₂
+execute g E.JMP x y r₁ r₂ = quiet (jump x)
+execute g E.JEQ x y r₁ r₂ = quiet (jumpIf (λ z n. z) x)
+execute g E.JNE x y r₁ r₂ = quiet (jumpIf (λ z n. not z) x)
+execute g E.JLE x y r₁ r₂ = quiet (jumpIf (λ z n. z || n) x)
+execute g E.JLT x y r₁ r₂ = quiet (jumpIf (λ z n. not z && n) x)
+execute g E.JGE x y r₁ r₂ = quiet (jumpIf (λ z n. z || not n) x)
+execute g E.JGT x y r₁ r₂ = quiet (jumpIf (λ z n. not z && not n) x)
+execute g E.LD x y r₁ r₂ = quiet (ld x r₂)
+execute g E.MUL x y r₁ r₂ = quiet (words x r₂ (λ v w. putWrapped r₂ (wrapped (v *ℤ w))))
+execute g E.NEG x y r₁ r₂ = quiet (neg r₁)
+execute g E.NOP x y r₁ r₂ = quiet (return tt)
+execute g E.NOT x y r₁ r₂ = quiet (notOp r₁)
+execute g E.OR x y r₁ r₂ = quiet (words x r₂ (λ v w. putResult r₂ (orW v w)))
+execute g E.OUT x y r₁ r₂ = outOp x y
+execute g E.POP x y r₁ r₂ = quiet (popOp r₁)
+execute g E.PUSH x y r₁ r₂ = quiet (pushOp g x)
+execute g E.RESET x y r₁ r₂ = quiet reset
+execute g E.RTI x y r₁ r₂ = quiet rti
+execute g E.RTN x y r₁ r₂ = quiet rtn
+execute g E.SHL x y r₁ r₂ = quiet (words x r₂ (putShifted shlW r₂))
+execute g E.SHR x y r₁ r₂ = quiet (words x r₂ (putShifted shrW r₂))
+execute g E.ST x y r₁ r₂ = quiet (st g r₁ y)
+execute g E.SUB x y r₁ r₂ = quiet (words x r₂ (λ v w. putWrapped r₂ (wrapped (w -ℤ v))))
+execute g E.SWAP x y r₁ r₂ = quiet (swap g x r₂)
+execute g E.TRAP x y r₁ r₂ = quiet (raise Trap)
+execute g E.XOR x y r₁ r₂ = quiet (words x r₂ (λ v w. putResult r₂ (xorW v w)))

@@ -11,30 +11,31 @@ use Rattle.definition.specs.Word.{putBit}
 use Rattle.definition.specs.Total.{total}
 use Rattle.definition.specs.Exception.{Ending, exception, stop, ending, HARDWARE-INTERRUPT, BUDGET-SPENT, NO-HANDLER, OUTPUT-FULL, CYCLES-FULL}
 use Rattle.definition.specs.Memory.{word, cellAt, putCell, isInstruction}
-use Rattle.definition.specs.Registers.{with-pc, with-sr, with-empties, interruptEnable}
+use Rattle.definition.specs.Registers.{with-pc, with-sr, with-empties, supervisor, interruptEnable}
 use Rattle.definition.specs.Encoding.{Instruction, Extracted, instruction, noInstruction, extractInstruction}
 use Rattle.definition.specs.Io.{Console, with-marks, with-pending, readPort, writePort, outputFull}
 use Rattle.definition.specs.Exec.{Core, with-regs, with-cells, Exec, Res, ok, err, _>>=_, _>>_, return, raise, ask, change, read}
 use Rattle.definition.specs.Instructions.{Request, nothing, reads, writes, execute, setRegister}
 
--- The whole computer: cells and registers, cycles, console.
+-- The whole computer: cells and registers, cycles, console, fence.
 pub record Machine : Type 0 where
   pub core : Core
   pub cycles : ℕ
   pub console : Console
+  pub fence : ℕ
 
-abbrev pub machine : Core → ℕ → Console → Machine
-machine c n k = record { core = c; cycles = n; console = k }
+abbrev pub machine : Core → ℕ → Console → ℕ → Machine
+machine c n k f = record { core = c; cycles = n; console = k; fence = f }
 
 -- One part changed.
 abbrev pub with-core : Core → Machine → Machine
-with-core c m = machine c (m .cycles) (m .console)
+with-core c m = machine c (m .cycles) (m .console) (m .fence)
 
 abbrev pub with-cycles : ℕ → Machine → Machine
-with-cycles n m = machine (m .core) n (m .console)
+with-cycles n m = machine (m .core) n (m .console) (m .fence)
 
 abbrev pub with-console : Console → Machine → Machine
-with-console k m = machine (m .core) (m .cycles) k
+with-console k m = machine (m .core) (m .cycles) k (m .fence)
 
 -- The console's pending mark given another value.
 abbrev pub with-mark : Bool → Machine → Machine
@@ -59,10 +60,10 @@ pub record Executed : Type 0 where
   pub cost : ℕ
   pub request : Request
 
-unfoldable pub attempt : Exec Executed
-attempt = do
+unfoldable pub attempt : ℕ → Exec Executed
+attempt g = do
   i ← fetch
-  q ← execute (i .op) (i .x) (i .y) (i .r₁) (i .r₂)
+  q ← execute g (i .op) (i .x) (i .y) (i .r₁) (i .r₂)
   return (record { cost = i .cycles; request = q })
 
 -- ---- up to exception entry
@@ -103,8 +104,12 @@ unfoldable pub afterAttempt : Machine → Res Executed → Turn
 afterAttempt m (ok x c) = serve m (x .request) (x .cost) c
 afterAttempt m (err e c) = ends (ending e) (with-core c m)
 
+-- The first address that a step may write: the fence, if it is "begun with S clear".
+unfoldable pub guard : Machine → ℕ
+guard m = cond (supervisor (m .core .regs)) 0 (m .fence)
+
 unfoldable pub turn : Machine → Turn
-turn m = afterAttempt m (attempt (m .core))
+turn m = afterAttempt m (attempt (guard m) (m .core))
 
 -- ---- exception entry
 

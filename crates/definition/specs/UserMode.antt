@@ -4,7 +4,7 @@ use mathlib.Core.Bool.{true, false}
 use mathlib.Core.List.{List, [], _∷_, _++_}
 use Prim.Native.Nat.{ℕ, suc, _<_, _≤_}
 use lib.IntN.{pos}
-use Rattle.definition.specs.Constants.{ROW-A, ROW-PC, ROW-SR, ROW-CYCLES, ROW-ENABLE, ROW-FLAG, ROW-PENDING, ROW-START, ROW-COUNT, ROW-WRITTEN}
+use Rattle.definition.specs.Constants.{ROW-A, ROW-PC, ROW-SR, ROW-CYCLES, ROW-ENABLE, ROW-FLAG, ROW-PENDING, ROW-START, ROW-COUNT, ROW-WRITTEN, ROW-FENCE}
 use Rattle.definition.specs.Memory.{word, cellAt, isInstruction}
 use Rattle.definition.specs.Registers.{supervisor}
 use Rattle.definition.specs.Runtime.{Machine, turn, enters, entered, enteredSr, uncounted}
@@ -21,6 +21,8 @@ pub record Alike (l₁ l₂ : Lent) : Type 0 where
   pub registers : (i : ℕ) → ROW-A ≤ i → i ≤ ROW-SR → at i (l₁ .row) ≡ at i (l₂ .row)
   pub cycles : at ROW-CYCLES (l₁ .row) ≡ at ROW-CYCLES (l₂ .row)
   pub pending : at ROW-PENDING (l₁ .row) ≡ at ROW-PENDING (l₂ .row)
+  -- "for the user-mode pairing the two fences are equal"
+  pub fence : at ROW-FENCE (l₁ .row) ≡ at ROW-FENCE (l₂ .row)
 
 -- The console, pending mark aside: enable, flag, queue start, both counts and every byte of queue and output record.
 pub record SameConsole (l l' : Lent) : Type 0 where
@@ -87,6 +89,9 @@ pub record Whole (l₁ l₂ : Lent) (ns : List ℕ) : Type 0 where
   -- "and each console, pending mark aside, is as it was"
   pub console₁ : SameConsole l₁ (calls ns l₁)
   pub console₂ : SameConsole l₂ (calls ns l₂)
+  -- and so is each fence, which no step writes
+  pub fence₁ : at ROW-FENCE (calls ns l₁ .row) ≡ at ROW-FENCE (l₁ .row)
+  pub fence₂ : at ROW-FENCE (calls ns l₂ .row) ≡ at ROW-FENCE (l₂ .row)
   -- "The step that sets the bit", in each of the two
   pub entry₁ : lentSupervisor (calls ns l₁) ≡ true → Entry ns l₁
   pub entry₂ : lentSupervisor (calls ns l₂) ≡ true → Entry ns l₂

@@ -1,6 +1,6 @@
-// The row of 16 numbers (document 01, "Cells and row"): its length, and where each number or cell begins, from 0.
+// The row of 17 numbers (document 01, "Cells and row"; document 02, Card 5): its length, and where each number or cell begins, from 0.
 
-pub const ROW: usize = 16;
+pub const ROW: usize = 17;
 
 pub const A: usize = 0;
 
@@ -26,7 +26,9 @@ pub const COUNT: usize = 14;
 
 pub const WRITTEN: usize = 15;
 
-// The same places as a refusal names them, from 1: the definition's ROW-A to ROW-WRITTEN. No refusal names sr.
+pub const FENCE: usize = 16;
+
+// The same places as a refusal names them, from 1: the definition's ROW-A to ROW-FENCE. No refusal names sr.
 
 pub const ROW_A: u64 = A as u64 + 1;
 
@@ -49,3 +51,5 @@ pub const ROW_START: u64 = START as u64 + 1;
 pub const ROW_COUNT: u64 = COUNT as u64 + 1;
 
 pub const ROW_WRITTEN: u64 = WRITTEN as u64 + 1;
+
+pub const ROW_FENCE: u64 = FENCE as u64 + 1;

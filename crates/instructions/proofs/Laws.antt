@@ -52,14 +52,14 @@ module _ (l : List ℤ) (c : Core) (m : Exec (Unit {0})) where
 pub branch-is : {a b : Bool} (m n : Exec (Unit {0})) (c : Core) → a ≡ b → branch b m n c ≡ branch a m n c
 branch-is m n c h = ap (λ (d : Bool). branch d m n c) (sym h)
 
-module _ (x y : Operand) (r t : Reg) (l : List ℤ) (s : Registers) where
-  pub jump-op : (o : ℕ) → 7 ≤ o → o < 14 → quiet (λ c. branch (testAt o (bit ZERO (s .sr)) (bit NEGATIVE (s .sr))) (jump x) (return tt) c) (core l s) ≡ execute (opAt o) x y r t (core l s)
+module _ (g : ℕ) (x y : Operand) (r t : Reg) (l : List ℤ) (s : Registers) where
+  pub jump-op : (o : ℕ) → 7 ≤ o → o < 14 → quiet (λ c. branch (testAt o (bit ZERO (s .sr)) (bit NEGATIVE (s .sr))) (jump x) (return tt) c) (core l s) ≡ execute g (opAt o) x y r t (core l s)
   unfolding execute opAt quiet andThen jumpIf branch testAt
   jump-op o a b =
       let e : o ≡ 7 + (o - 7) = omega arith in
       rw e (go (o - 7) (omega arith))
     where
-      go : (k : ℕ) → k ≤ 6 → quiet (λ c. branch (testAt (7 + k) (bit ZERO (s .sr)) (bit NEGATIVE (s .sr))) (jump x) (return tt) c) (core l s) ≡ execute (opAt (7 + k)) x y r t (core l s)
+      go : (k : ℕ) → k ≤ 6 → quiet (λ c. branch (testAt (7 + k) (bit ZERO (s .sr)) (bit NEGATIVE (s .sr))) (jump x) (return tt) c) (core l s) ≡ execute g (opAt (7 + k)) x y r t (core l s)
       go zero h = refl
       go (suc zero) h = refl
       go (suc (suc zero)) h = refl
@@ -106,15 +106,15 @@ refused-is s (R.assigned t) q e f = absurd (true≢false (sym (ap (λ (x : Put).
 refused-is s (R.refused x) q e f = ap (λ (y : Put). settled s (R.refused (y .error))) e
 
 -- one arm: operation k does m, which writes no cell, or may write one
-module _ (x y : Arg) (l : List ℤ) (s : Registers) (o k : ℕ) (e : o ≡ k) (m : Exec (Unit {0})) (f : quiet m (core l s) ≡ execute (opAt k) (argOf x) (argOf y) (regAt (x .reg)) (regAt (y .reg)) (core l s)) where
-  arm-is : quiet m (core l s) ≡ execute (opAt o) (argOf x) (argOf y) (regAt (x .reg)) (regAt (y .reg)) (core l s)
-  arm-is = f ∙ ap (λ (n : ℕ). execute (opAt n) (argOf x) (argOf y) (regAt (x .reg)) (regAt (y .reg)) (core l s)) (sym e)
+module _ (g : ℕ) (x y : Arg) (l : List ℤ) (s : Registers) (o k : ℕ) (e : o ≡ k) (m : Exec (Unit {0})) (f : quiet m (core l s) ≡ execute g (opAt k) (argOf x) (argOf y) (regAt (x .reg)) (regAt (y .reg)) (core l s)) where
+  arm-is : quiet m (core l s) ≡ execute g (opAt o) (argOf x) (argOf y) (regAt (x .reg)) (regAt (y .reg)) (core l s)
+  arm-is = f ∙ ap (λ (n : ℕ). execute g (opAt n) (argOf x) (argOf y) (regAt (x .reg)) (regAt (y .reg)) (core l s)) (sym e)
 
-  pub arm-made : (d : Made) → madeRes l d ≡ m (core l s) → made nothing l d ≡ execute (opAt o) (argOf x) (argOf y) (regAt (x .reg)) (regAt (y .reg)) (core l s)
+  pub arm-made : (d : Made) → madeRes l d ≡ m (core l s) → made nothing l d ≡ execute g (opAt o) (argOf x) (argOf y) (regAt (x .reg)) (regAt (y .reg)) (core l s)
   arm-made d h = quiet-made l (core l s) m d h ∙ arm-is
 
-  pub arm-none : cellCount l ≤ CELLS-MOST → (q : Put) {d : Made} → d ≡ unwritten q → putRes l q ≡ m (core l s) → made nothing l d ≡ execute (opAt o) (argOf x) (argOf y) (regAt (x .reg)) (regAt (y .reg)) (core l s)
-  arm-none h q g p = quiet-none l (core l s) m h q g p ∙ arm-is
+  pub arm-none : cellCount l ≤ CELLS-MOST → (q : Put) {d : Made} → d ≡ unwritten q → putRes l q ≡ m (core l s) → made nothing l d ≡ execute g (opAt o) (argOf x) (argOf y) (regAt (x .reg)) (regAt (y .reg)) (core l s)
+  arm-none h q z p = quiet-none l (core l s) m h q z p ∙ arm-is
 
 -- a value under f
 pub then-return : {X Y : Type 0} {m : Res X} (f : X → Y) (v : X) (b : Bool) (e : Error) (c : Core) → result v b e c ≡ m → result (f v) b e c ≡ andThen m (λ v. return (f v))

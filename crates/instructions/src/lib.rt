@@ -40,17 +40,17 @@ pub fn is_asker(op: u32) -> bool
 
 // Instruction::execute for every operation but in and out. One flat match, so that it compiles to one jump table; what it leaves
 // to its last arm are the seven jumps.
-pub fn execute(cells: &[i64], s: Registers, op: u32, x: Arg, y: Arg) -> Made
+pub fn execute(cells: &[i64], guard: u32, s: Registers, op: u32, x: Arg, y: Arg) -> Made
     requires { do ⌜ (cellCount (now cells) ≤ CELLS-MOST) × ((asker op ≡ false) × (op < 33)) ⌝ }
-    ensures { λ d. ⌜ made nothing (now (cells .entry)) d ≡ execute (opAt op) (argOf x) (argOf y) (regAt (x .reg)) (regAt (y .reg)) (core (now (cells .entry)) s) ⌝ }
+    ensures { λ d. ⌜ made nothing (now (cells .entry)) d ≡ execute guard (opAt op) (argOf x) (argOf y) (regAt (x .reg)) (regAt (y .reg)) (core (now (cells .entry)) s) ⌝ }
 {
     match op {
         0 => stores::with_none(operations::words::add(cells, s, x, y.reg)),
         1 => stores::with_none(operations::words::and(cells, s, x, y.reg)),
-        2 => stores::call(cells, s, x),
+        2 => stores::call(cells, guard, s, x),
         3 => stores::with_none(operations::words::cmp(cells, s, x, y.reg)),
         4 => stores::with_none(operations::words::div(cells, s, x, y.reg)),
-        5 => stores::fas(cells, s, x, y.reg),
+        5 => stores::fas(cells, guard, s, x, y.reg),
         14 => stores::with_none(moves::ld(cells, s, x, y.reg)),
         15 => stores::with_none(operations::words::mul(cells, s, x, y.reg)),
         16 => stores::with_none(operations::words::neg(s, x.reg)),
@@ -58,15 +58,15 @@ pub fn execute(cells: &[i64], s: Registers, op: u32, x: Arg, y: Arg) -> Made
         18 => stores::with_none(operations::words::not(s, x.reg)),
         19 => stores::with_none(operations::words::or(cells, s, x, y.reg)),
         21 => stores::with_none(moves::pop(cells, s, x.reg)),
-        22 => stores::push(cells, s, x),
+        22 => stores::push(cells, guard, s, x),
         23 => stores::with_none(jumps::reset(s)),
         24 => stores::with_none(moves::rti(cells, s)),
         25 => stores::with_none(moves::rtn(cells, s)),
         26 => stores::with_none(operations::words::shl(cells, s, x, y.reg)),
         27 => stores::with_none(operations::words::shr(cells, s, x, y.reg)),
-        28 => stores::st(cells, s, x.reg, y),
+        28 => stores::st(cells, guard, s, x.reg, y),
         29 => stores::with_none(operations::words::sub(cells, s, x, y.reg)),
-        30 => stores::swap(cells, s, x, y.reg),
+        30 => stores::swap(cells, guard, s, x, y.reg),
         31 => stores::with_none(registers::refuse(s, Error::Trap)),
         32 => stores::with_none(operations::words::xor(cells, s, x, y.reg)),
         _ => stores::with_none(jumps::jump_if(

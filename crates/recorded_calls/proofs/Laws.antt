@@ -9,9 +9,6 @@ use lib.IntN.{ℤ, pos}
 use lib.ListN.{length, replicate}
 use lib.Signed.{ltZ}
 use borrow.Author.Tests.{ltb-false}
-use Rattle.definition.specs.declared.Address.{Address}
-use Rattle.definition.specs.declared.Address.the-variants as A
-use Rattle.definition.specs.Word.{addressOf}
 use Rattle.definition.specs.Constants.{ROW}
 use Rattle.definition.specs.Calls.{Lent, called, accepted, passes, verdict, cellsTest, lengthTest, freshCheck, fresh}
 use Rattle.recorded.specs.declared.reader.Line.{Line}
@@ -22,22 +19,21 @@ use Rattle.recorded_cases.specs.declared.state.State.{State}
 use Rattle.recorded_cases.specs.Room.{Fits}
 use Rattle.recorded_cases.specs.Case.{both, due, fails, nextLine, sizeOf, kindOf, closeLine, otherLine}
 use Rattle.recorded_cases.proofs.Laws.{by-cond, fits-opened, fits-other, fits-byte, fits-before, fits-after, fits-close}
-use Rattle.recorded_calls.specs.Replay.{runOn, deliverLine, drainLine, raiseLine, setLine, Calling, calling, callLine, openLine, Replay, kindDone, lineDone, withState, Reading, onFed, byteTaken}
+use Rattle.recorded_calls.specs.Replay.{runLine, deliverLine, drainLine, raiseLine, setLine, Calling, calling, callLine, openLine, Replay, kindDone, lineDone, withState, Reading, onFed, byteTaken}
 
 -- after a call with a drain buffer of n bytes
 fits-called : (s : State) (n : ℕ) → Fits s → n ≤ 128 → (s .queue ≤ 256) × ((s .output ≤ 4096) × ((0 ≤ 8) × (n ≤ 128)))
 fits-called s n f h = (f .0, (f .1 .0, (omega arith, h)))
 
-fits-run : (s : State) (l : Line) (m : Lent) (x : Address) → Fits s → Fits (runOn s l m x .0)
-unfolding runOn
-fits-run s l m A.NotAddress f = f
-fits-run s l m (A.At n) f = fits-called s 0 f (omega arith)
+fits-run : (s : State) (l : Line) (m : Lent) → Fits s → Fits (runLine s l m .0)
+unfolding runLine
+fits-run s l m f = fits-called s 0 f (omega arith)
 
 fits-call : (k : ℕ) (l : Line) (bytes : List ℕ) (w : Calling) → Fits (w .state) → Fits (callLine k l bytes w .state)
 unfolding callLine deliverLine drainLine raiseLine setLine
 fits-call k l bytes w f = let P : Calling → Type 0 = λ c. Fits (c .state) in
     let s = w .state in
-    by-cond P (eqb k 10) (λ e. fits-run s l (w .machine) (addressOf (l .a)) f) (λ e.
+    by-cond P (eqb k 10) (λ e. fits-run s l (w .machine) f) (λ e.
     by-cond P (eqb k 11) (λ e. by-cond (λ (p : State × (List ℕ × List ℤ)). Fits (p .0)) (eqb (sizeOf (l .a)) (s .bytes)) (λ e. fits-called s 0 f (omega arith)) (λ e. f)) (λ e.
     by-cond P (eqb k 12) (λ e. by-cond (λ (p : State × (List ℤ × (List ℕ × List ℕ))). Fits (p .0)) (ltb 128 (sizeOf (l .a))) (λ e. f) (λ e. fits-called s (sizeOf (l .a)) f (ltb-false 128 (sizeOf (l .a)) e))) (λ e.
     by-cond P (eqb k 13) (λ e. by-cond (λ (p : State × (List ℤ × List ℤ)). Fits (p .0)) (ltZ (l .a) (pos 0)) (λ e. f) (λ e. fits-called s 0 f (omega arith))) (λ e.

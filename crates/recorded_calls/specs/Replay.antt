@@ -6,9 +6,8 @@ use lib.Dec.{ltb, eqb}
 use lib.IntN.{ℤ, pos}
 use lib.ListN.{length, take, drop, replicate}
 use lib.Signed.{ltZ}
-use Rattle.definition.specs.declared.Address.{Address}
-use Rattle.definition.specs.declared.Address.the-variants as A
-use Rattle.definition.specs.Word.{bits, addressOf}
+use Rattle.definition.specs.Constants.{ROW}
+use Rattle.definition.specs.Word.{bits}
 use Rattle.definition.specs.declared.Done.{Done}
 use Rattle.definition.specs.declared.Drained.{Drained}
 use Rattle.definition.specs.declared.Ran.{Ran}
@@ -57,15 +56,11 @@ drainedIn n output row buffer =
     called (x .answer) (x .left .0, x .left .1 ++ drop n buffer)
 
 -- "call run; it is not refused, and answers so"
-unfoldable pub runOn : State → Line → Lent → Address → State × Lent
-runOn s l m A.NotAddress = (withFault s F.Number, m)
-runOn s l m (A.At n) =
-    let x = ranIn n (s .queue) (s .output) m in
+unfoldable pub runLine : State → Line → Lent → State × Lent
+runLine s l m =
+    let x = ranIn (bits (l .a)) (s .queue) (s .output) m in
     let r = x .answer in
     (afterCall s 0 (runAnswer (r .refusal) (r .place) (r .stop) (r .detail) (r .steps) (r .empty)) (runAnswer 0 0 (bits (l .b)) (bits (l .c)) (bits (l .d)) (s .empty)), x .left)
-
-abbrev pub runLine : State → Line → Lent → State × Lent
-runLine s l m = runOn s l m (addressOf (l .a))
 
 -- "call deliver with the bytes of the lines 6 before it"
 unfoldable pub deliverLine : State → Line → List ℕ → List ℕ → List ℤ → State × (List ℕ × List ℤ)
@@ -134,7 +129,7 @@ callLine k l bytes w =
     cond (eqb k 13) (calling (up .0) (lent (up .1 .0) (m .queue) (m .output) (up .1 .1)) b u)
     (calling (reg .0) (lent (m .cells) (m .queue) (m .output) (reg .1)) b u))))
 
--- "opens a case: all cells empty, all bytes 0, the row's 16 numbers 0"
+-- "opens a case: all cells empty, all bytes 0, the row's 17 numbers 0"
 abbrev pub emptied : Lent → Lent
 emptied m =
     lent (replicate (length (m .cells)) (pos 0)) (replicate (length (m .queue)) 0) (replicate (length (m .output)) 0) (replicate (length (m .row)) (pos 0))
@@ -202,7 +197,7 @@ unfoldable pub byteTaken : Reading → ℕ → Reading
 byteTaken r b = cond (fails (r .replay .state .fault)) r (onFed (r .replay) (fed (r .reader) b))
 
 abbrev pub noMachine : Lent
-noMachine = lent (replicate 30000 (pos 0)) (replicate 256 0) (replicate 4096 0) (replicate 16 (pos 0))
+noMachine = lent (replicate 30000 (pos 0)) (replicate 256 0) (replicate 4096 0) (replicate ROW (pos 0))
 
 abbrev pub opening : Reading
 opening = reading noLine (replay started noMachine noMachine (replicate 8 0) (replicate 128 0) (replicate 128 0))

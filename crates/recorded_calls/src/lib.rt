@@ -1,5 +1,4 @@
 // The recorded list's calls: the line that opens a case, and the lines 10 to 14, whose answers are compared with the machine's.
-use definition::Address;
 use definition::Done;
 use definition::Drained;
 use definition::Ran;
@@ -62,7 +61,7 @@ fn run_in(
     output: &mut [u8],
     o: usize,
     row: &mut [i64],
-    budget: u32,
+    budget: u64,
 ) -> Ran
     requires { ⌜ (q ≤ length (now queue)) × (o ≤ length (now output)) ⌝ }
     ensures { λ r. ⌜ Calls·called r (lent (now (cells .exit)) (now (queue .exit)) (now (output .exit)) (now (row .exit))) ≡ ranIn budget q o (lent (now (cells .entry)) (now (queue .entry)) (now (output .entry)) (now (row .entry))) ⌝ }
@@ -96,10 +95,15 @@ fn run(
     requires { ⌜ Fits s ⌝ }
     ensures { λ r. ⌜ (r, lent (now (cells .exit)) (now (queue .exit)) (now (output .exit)) (now (row .exit))) ≡ runLine s l (lent (now (cells .entry)) (now (queue .entry)) (now (output .entry)) (now (row .entry))) ⌝ }
 {
-    let Address::At(budget) = word::to_address(l.a) else {
-        return with_fault(s, Fault::Number);
-    };
-    let r = run_in(cells, queue, s.queue, output, s.output, row, budget);
+    let r = run_in(
+        cells,
+        queue,
+        s.queue,
+        output,
+        s.output,
+        row,
+        word::to_bits(l.a),
+    );
     let got = Answer {
         refusal: r.refusal,
         place: r.place,
@@ -247,7 +251,7 @@ fn call(
     set_register(s, l, row)
 }
 
-// "opens a case: all cells empty, all bytes 0, the row's 16 numbers 0"
+// "opens a case: all cells empty, all bytes 0, the row's 17 numbers 0"
 fn open(
     s: State,
     l: Line,

@@ -30,7 +30,7 @@ pub fn run_check(cells: &[i64], queue: &[u8], output: &[u8], row: &[i64]) -> Don
     if whole {
         if queued {
             if recorded {
-                let d = checks::row_check(row, queue.len(), output.len());
+                let d = checks::row_check(row, queue.len(), output.len(), cells.len() / 3);
                 if d.refusal == 0 {
                     checks::damage(cells, accept())
                 } else {
@@ -61,7 +61,7 @@ pub fn deliver_check(queue: &[u8], row: &[i64], bytes: &[u8]) -> Done
     ensures { λ r. ⌜ r ≡ deliverCheck (now (queue .entry)) (now (row .entry)) (now (bytes .entry)) ⌝ }
 {
     if checks::queue_fits(queue) {
-        let d = checks::row_check(row, queue.len(), 65536);
+        let d = checks::row_check(row, queue.len(), 65536, 10000);
         if d.refusal == 0 {
             let room = queue.len() - row::number_at(row, places::COUNT) as usize;
             check(bytes.len() <= room, 6, 0, accept())
@@ -81,7 +81,7 @@ pub fn drain_check(output: &[u8], row: &[i64], buffer: &[u8]) -> Done
     ensures { λ r. ⌜ r ≡ drainCheck (now (output .entry)) (now (row .entry)) (now (buffer .entry)) ⌝ }
 {
     if checks::output_fits(output) {
-        let d = checks::row_check(row, 4096, output.len());
+        let d = checks::row_check(row, 4096, output.len(), 10000);
         if d.refusal == 0 {
             let n = row::number_at(row, places::WRITTEN) as usize;
             check(n <= buffer.len(), 7, 0, accept())
@@ -162,7 +162,7 @@ pub fn register_fits(r: u64, w: i64) -> bool
 pub fn set_register_check(row: &[i64], r: u64, w: i64) -> Done
     ensures { λ d. ⌜ d ≡ setRegisterCheck (now (row .entry)) r w ⌝ }
 {
-    let d = checks::row_check(row, 4096, 65536);
+    let d = checks::row_check(row, 4096, 65536, 10000);
     if d.refusal == 0 {
         check(register_fits(r, w), 10, 0, accept())
     } else {
@@ -175,7 +175,7 @@ pub fn raise_check(cells: &[i64], row: &[i64], code: u64) -> Done
     ensures { λ r. ⌜ r ≡ raiseCheck (now (cells .entry)) (now (row .entry)) code ⌝ }
 {
     if checks::cells_fit(cells) {
-        let d = checks::row_check(row, 4096, 65536);
+        let d = checks::row_check(row, 4096, 65536, cells.len() / 3);
         if d.refusal == 0 {
             checks::damage(cells, check(code <= 5, 11, 0, accept()))
         } else {

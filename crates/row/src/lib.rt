@@ -1,4 +1,4 @@
-// The row of 16 numbers: its parts read into structs, and written back. Places count from 0 here.
+// The row of 17 numbers: its parts read into structs, and written back. Places count from 0 here.
 use console::ConsoleState;
 use definition::Cell;
 use definition::Marks;
@@ -149,9 +149,9 @@ pub fn put_console(row: &mut [i64], k: ConsoleState)
 }
 
 // The whole row anew.
-pub fn write_row(row: &mut [i64], s: Registers, cycles: u64, k: ConsoleState)
+pub fn write_row(row: &mut [i64], s: Registers, cycles: u64, k: ConsoleState, fence: u32)
     requires { ⌜ (length (now row) ≡ ROW) × ((cycles < 2 ^ 63) × ((k .start < 2 ^ 63) × ((k .count < 2 ^ 63) × (k .written < 2 ^ 63)))) ⌝ }
-    ensures { λ r. ⌜ now (row .exit) ≡ rowOf (machine (core [] s) cycles (consoleOf k [] [])) ⌝ }
+    ensures { λ r. ⌜ now (row .exit) ≡ rowOf (machine (core [] s) cycles (consoleOf k [] []) fence) ⌝ }
 {
     let a = s.a;
     let b = s.b;
@@ -161,6 +161,7 @@ pub fn write_row(row: &mut [i64], s: Registers, cycles: u64, k: ConsoleState)
     put_numbers(row, s, cycles);
     put_marks(row, marks);
     put_console(row, k);
+    put(row, places::FENCE, fence as i64);
 }
 
 // The row after n bytes were delivered.

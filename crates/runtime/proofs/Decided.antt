@@ -40,16 +40,16 @@ module _ (e : Performed) (cost cycles : ℕ) where
   -- a poll that finds nothing leaves the marks as they are
   pub concludes-polled : e .ok ≡ true → Concludes e cost cycles polling
   unfolding M.conclude M.poll
-  concludes-polled h = record { is = λ l q o. at (interruptEnable (e .f .p .s)) (e .f .k .marks .pending) refl refl l q o; room = λ size z. z; soon = omega arith }
+  concludes-polled h = record { is = λ l q o w. at (interruptEnable (e .f .p .s)) (e .f .k .marks .pending) refl refl l q o w; room = λ size z. z; soon = omega arith }
     where
-      at : (i p : Bool) → interruptEnable (e .f .p .s) ≡ i → e .f .k .marks .pending ≡ p → (l : List ℤ) (q o : List ℕ) → turnOf l q o polling ≡ concluded l q o e cost cycles
-      at true true f g l q o = rw (h, f, g)
-      at true false f g l q o = rw (h, f, g)
-      at false p f g l q o = rw (h, f)
+      at : (i p : Bool) → interruptEnable (e .f .p .s) ≡ i → e .f .k .marks .pending ≡ p → (l : List ℤ) (q o : List ℕ) (w : ℕ) → turnOf l q o w polling ≡ concluded l q o w e cost cycles
+      at true true f g l q o w = rw (h, f, g)
+      at true false f g l q o w = rw (h, f, g)
+      at false p f g l q o w = rw (h, f)
 
   pub concludes-fail : (x : Ends) → e .ok ≡ false → endingOf x ≡ ending (e .error) → Concludes e cost cycles (arrival (x .exception) (not (x .exception)) (x .number) (x .detail) cycles (e .f))
   unfolding M.conclude M.ends
-  concludes-fail x h₁ h₂ = record { is = λ l q o. sym (rw (h₁, ← h₂) (sym (at (x .exception) _))); room = λ size z. z; soon = omega arith }
+  concludes-fail x h₁ h₂ = record { is = λ l q o w. sym (rw (h₁, ← h₂) (sym (at (x .exception) _))); room = λ size z. z; soon = omega arith }
     where
       at : (b : Bool) (m : Machine) → turnAt b (not b) (x .number) (x .detail) m ≡ M.ends (cond b (exception (x .number)) (stop (x .number) (x .detail))) m
       at true m = refl
@@ -68,53 +68,53 @@ full = record { completed = false; stop = 7; detail = 0; enters = false; full = 
 
 module _ (l : List ℤ) (a : Arrival) where
   -- no entry
-  plainly : (d : Decision) → d .enters ≡ false → ((m : State) (q o : List ℕ) → decidedOf l q o m a d ≡ M.limit (machineAt l q o m) (M.settle (turnOf l q o a))) → Decides l a d
+  plainly : (d : Decision) → d .enters ≡ false → ((m : State) (q o : List ℕ) (w : ℕ) → decidedOf l q o m w a d ≡ M.limit (machineAt l q o m) (M.settle (turnOf l q o w a))) → Decides l a d
   plainly d h e = record { is = e; soon = λ z. absurd (true≢false (sym z ∙ h)) }
 
   pub decides-stop : a .enters ≡ false → a .stops ≡ true → a .cycles < CYCLES-END → Decides l a (ends false (a .number) (a .detail))
   unfolding M.settle M.reached
-  decides-stop h₁ h₂ c = plainly _ refl (λ m q o. sym (rw (h₁, h₂) (limit-below _ _ c)))
+  decides-stop h₁ h₂ c = plainly _ refl (λ m q o w. sym (rw (h₁, h₂) (limit-below _ _ c)))
 
   pub decides-complete : a .enters ≡ false → a .stops ≡ false → a .cycles < CYCLES-END → Decides l a (ends true 0 0)
   unfolding M.settle M.reached
-  decides-complete h₁ h₂ c = plainly _ refl (λ m q o. sym (rw (h₁, h₂) (limit-below _ _ c)))
+  decides-complete h₁ h₂ c = plainly _ refl (λ m q o w. sym (rw (h₁, h₂) (limit-below _ _ c)))
 
   pub decides-unhandled : a .enters ≡ true → hasHandler (planned l (a .f .p)) ≡ false → a .cycles < CYCLES-END → Decides l a (ends false 2 (a .number))
   unfolding M.settle M.recover M.reached
-  decides-unhandled h₁ h₂ c = plainly _ refl (λ m q o. sym (rw (h₁, h₂) (limit-below _ _ c)))
+  decides-unhandled h₁ h₂ c = plainly _ refl (λ m q o w. sym (rw (h₁, h₂) (limit-below _ _ c)))
 
   pub decides-entered : a .enters ≡ true → hasHandler (planned l (a .f .p)) ≡ true → a .cycles + 1 < CYCLES-END → Decides l a entered
   unfolding M.settle M.recover M.reached M.entered
   decides-entered h₁ h₂ c =
       let k : suc (a .cycles) < CYCLES-END = omega arith in
-      record { is = λ m q o. sym (rw (h₁, h₂) (limit-below _ _ k)); soon = λ _. c }
+      record { is = λ m q o w. sym (rw (h₁, h₂) (limit-below _ _ k)); soon = λ _. c }
 
   pub decides-full : a .enters ≡ false → CYCLES-END ≤ a .cycles → Decides l a full
   unfolding M.settle M.reached
-  decides-full h₁ c = plainly _ refl (λ m q o. sym (rw h₁ (go (a .stops) m q o)))
+  decides-full h₁ c = plainly _ refl (λ m q o w. sym (rw h₁ (go (a .stops) m q o w)))
     where
-      go : (b : Bool) (m : State) (q o : List ℕ) → M.limit (machineAt l q o m) (M.settle (turnAt false b (a .number) (a .detail) (effectsAt l q o (a .cycles) (a .f)))) ≡ M.stopped CYCLES-FULL 0 (machineAt l q o m)
-      go true m q o = limit-full _ _ c
-      go false m q o = limit-full _ _ c
+      go : (b : Bool) (m : State) (q o : List ℕ) (w : ℕ) → M.limit (machineAt l q o m) (M.settle (turnAt false b (a .number) (a .detail) (effectsAt l q o w (a .cycles) (a .f)))) ≡ M.stopped CYCLES-FULL 0 (machineAt l q o m)
+      go true m q o w = limit-full _ _ c
+      go false m q o w = limit-full _ _ c
 
   pub decides-entered-full : a .enters ≡ true → hasHandler (planned l (a .f .p)) ≡ true → CYCLES-END ≤ a .cycles + 1 → Decides l a full
   unfolding M.settle M.recover M.reached M.entered
   decides-entered-full h₁ h₂ c =
       let k : CYCLES-END ≤ suc (a .cycles) = omega arith in
-      plainly _ refl (λ m q o. sym (rw (h₁, h₂) (limit-full _ _ k)))
+      plainly _ refl (λ m q o w. sym (rw (h₁, h₂) (limit-full _ _ k)))
 
   pub decides-unhandled-full : a .enters ≡ true → hasHandler (planned l (a .f .p)) ≡ false → CYCLES-END ≤ a .cycles → Decides l a full
   unfolding M.settle M.recover M.reached
-  decides-unhandled-full h₁ h₂ c = plainly _ refl (λ m q o. sym (rw (h₁, h₂) (limit-full _ _ c)))
+  decides-unhandled-full h₁ h₂ c = plainly _ refl (λ m q o w. sym (rw (h₁, h₂) (limit-full _ _ c)))
 
 -- ---- commit
 
 -- l' and o' are the cells and the record as the one writer leaves them, s the registers after entry
-module _ (l : List ℤ) (q o : List ℕ) (a : Arrival) (enters : Bool) {l' : List ℤ} {o' : List ℕ} (cells-are : l' ≡ written enters (a .number) (a .f .p) l) (output-is : o' ≡ sent (a .f .sends) (a .f .to) (a .f .byte) o) where
-  pub commits : enters ≡ false → machine (core l' (a .f .p .s)) (a .cycles) (consoleOf (a .f .k) q o') ≡ committed enters l q o a
+module _ (l : List ℤ) (q o : List ℕ) (w : ℕ) (a : Arrival) (enters : Bool) {l' : List ℤ} {o' : List ℕ} (cells-are : l' ≡ written enters (a .number) (a .f .p) l) (output-is : o' ≡ sent (a .f .sends) (a .f .to) (a .f .byte) o) where
+  pub commits : enters ≡ false → machine (core l' (a .f .p .s)) (a .cycles) (consoleOf (a .f .k) q o') w ≡ committed enters l q o w a
   commits h = rw (cells-are, output-is, h)
 
-  pub commits-entered : enters ≡ true → {s : Registers} → s ≡ enteredRegisters (a .number) (a .f .p .s) → machine (core l' s) (a .cycles + 1) (consoleOf (a .f .k) q o') ≡ committed enters l q o a
+  pub commits-entered : enters ≡ true → {s : Registers} → s ≡ enteredRegisters (a .number) (a .f .p .s) → machine (core l' s) (a .cycles + 1) (consoleOf (a .f .k) q o') w ≡ committed enters l q o w a
   unfolding M.entered M.enteredCore
   commits-entered h regs-are =
       let e : a .cycles + 1 ≡ suc (a .cycles) = omega arith in
@@ -122,15 +122,15 @@ module _ (l : List ℤ) (q o : List ℕ) (a : Arrival) (enters : Bool) {l' : Lis
 
 -- ---- settle
 
-module _ (l : List ℤ) (q o : List ℕ) (m : State) (a : Arrival) (d : Decision) (k : Decides l a d) where
+module _ (l : List ℤ) (q o : List ℕ) (m : State) (w : ℕ) (a : Arrival) (d : Decision) (k : Decides l a d) where
   -- what is left: m at stop 7, else what was committed
-  left-is : (b : Bool) → d .full ≡ b → outcomeAt (d .completed) (d .stop) (d .detail) (cond b (machineAt l q o m) (committed (d .enters) l q o a)) ≡ M.limit (machineAt l q o m) (M.settle (turnOf l q o a))
-  left-is b h = ap (λ (c : Bool). outcomeAt (d .completed) (d .stop) (d .detail) (cond c (machineAt l q o m) (committed (d .enters) l q o a))) (sym h) ∙ k .is m q o
+  left-is : (b : Bool) → d .full ≡ b → outcomeAt (d .completed) (d .stop) (d .detail) (cond b (machineAt l q o m) (committed (d .enters) l q o w a)) ≡ M.limit (machineAt l q o m) (M.settle (turnOf l q o w a))
+  left-is b h = ap (λ (c : Bool). outcomeAt (d .completed) (d .stop) (d .detail) (cond c (machineAt l q o m) (committed (d .enters) l q o w a))) (sym h) ∙ k .is m q o w
 
-  pub settles-full : d .full ≡ true → outcomeAt (d .completed) (d .stop) (d .detail) (machineAt l q o m) ≡ M.limit (machineAt l q o m) (M.settle (turnOf l q o a))
+  pub settles-full : d .full ≡ true → outcomeAt (d .completed) (d .stop) (d .detail) (machineAt l q o m) ≡ M.limit (machineAt l q o m) (M.settle (turnOf l q o w a))
   settles-full h = left-is true h
 
-  pub settles : d .full ≡ false → (x : Machine) → x ≡ committed (d .enters) l q o a → outcomeAt (d .completed) (d .stop) (d .detail) x ≡ M.limit (machineAt l q o m) (M.settle (turnOf l q o a))
+  pub settles : d .full ≡ false → (x : Machine) → x ≡ committed (d .enters) l q o w a → outcomeAt (d .completed) (d .stop) (d .detail) x ≡ M.limit (machineAt l q o m) (M.settle (turnOf l q o w a))
   settles h x e = ap (outcomeAt (d .completed) (d .stop) (d .detail)) e ∙ left-is false h
 
 -- ---- raise
@@ -139,7 +139,7 @@ pub no-byte : (o : List ℕ) → length o ≡ 0 → o ≡ []
 no-byte [] h = refl
 no-byte (x ∷ o) h = absurd (omega arith)
 
-pub raises : (l : List ℤ) (q : List ℕ) (m : State) (code : ℕ) → cellCount l ≤ 10000 → M.limit (machineAt l q [] m) (M.settle (turnOf l q [] (raising m code))) ≡ M.limit (machineAt l q [] m) (M.recover code (machineAt l q [] m))
+pub raises : (l : List ℤ) (q : List ℕ) (m : State) (code : ℕ) → cellCount l ≤ 10000 → M.limit (machineAt l q [] m) (M.settle (turnOf l q [] (m .fence) (raising m code))) ≡ M.limit (machineAt l q [] m) (M.recover code (machineAt l q [] m))
 unfolding M.settle
 raises l q m code few =
     ap (λ (x : List ℤ). M.limit (machineAt l q [] m) (M.recover code (machineAt x q [] m))) (over-no-cell l empty (omega arith))

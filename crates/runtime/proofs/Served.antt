@@ -37,15 +37,15 @@ use Rattle.runtime.specs.Meaning.{sent, done, attempted, executedAt, Ser
 use Rattle.memory.proofs.Laws.{over-no-cell}
 
 -- in is operation 6, out operation 20
-pub is-in : (l : List ℤ) (s : Registers) (i : Instr) → i .op ≡ 6 → inOp (argOf (i .x)) (regAt (i .y .reg)) (core l s) ≡ executedAt l s i
+pub is-in : (g : ℕ) (l : List ℤ) (s : Registers) (i : Instr) → i .op ≡ 6 → inOp (argOf (i .x)) (regAt (i .y .reg)) (core l s) ≡ executedAt g l s i
 unfolding execute opAt
-is-in l s i h =
-    sym (ap (λ (n : ℕ). execute (opAt n) (argOf (i .x)) (argOf (i .y)) (regAt (i .x .reg)) (regAt (i .y .reg)) (core l s)) h)
+is-in g l s i h =
+    sym (ap (λ (n : ℕ). execute g (opAt n) (argOf (i .x)) (argOf (i .y)) (regAt (i .x .reg)) (regAt (i .y .reg)) (core l s)) h)
 
-pub is-out : (l : List ℤ) (s : Registers) (i : Instr) → i .op ≡ 20 → outOp (argOf (i .x)) (argOf (i .y)) (core l s) ≡ executedAt l s i
+pub is-out : (g : ℕ) (l : List ℤ) (s : Registers) (i : Instr) → i .op ≡ 20 → outOp (argOf (i .x)) (argOf (i .y)) (core l s) ≡ executedAt g l s i
 unfolding execute opAt
-is-out l s i h =
-    sym (ap (λ (n : ℕ). execute (opAt n) (argOf (i .x)) (argOf (i .y)) (regAt (i .x .reg)) (regAt (i .y .reg)) (core l s)) h)
+is-out g l s i h =
+    sym (ap (λ (n : ℕ). execute g (opAt n) (argOf (i .x)) (argOf (i .y)) (regAt (i .x .reg)) (regAt (i .y .reg)) (core l s)) h)
 
 pub asks-out : (n : ℕ) → asker n ≡ true → (n ≡ 6 → ⊥) → n ≡ 20
 asks-out n h k = go (eqb n 6) refl h
@@ -55,16 +55,16 @@ asks-out n h k = go (eqb n 6) refl h
     go false e q = eqb-true n 20 q
 
 -- an instruction that asks nothing
-after-result : (c d : Core) (n : ℕ) (k : Console) (cost : ℕ) (b : Bool) (e : Error) → M.conclude cost (machine d n k) (result tt b e d) ≡ M.afterAttempt (machine c n k) (attempted cost (result nothing b e d))
+after-result : (c d : Core) (n : ℕ) (k : Console) (fence cost : ℕ) (b : Bool) (e : Error) → M.conclude cost (machine d n k fence) (result tt b e d) ≡ M.afterAttempt (machine c n k fence) (attempted cost (result nothing b e d))
 unfolding M.afterAttempt M.serve M.conclude
-after-result c d n k cost true e = refl
-after-result c d n k cost false e = refl
+after-result c d n k fence cost true e = refl
+after-result c d n k fence cost false e = refl
 
 module _ (l : List ℤ) (q : List ℕ) (size : ℕ) (k : ConsoleState) (cost : ℕ) (x : Res Request) where
   pub serves-made : (d : Made) → made nothing l d ≡ x → Serves l q size k cost x (done d k)
   serves-made d e =
       record {
-        is = λ o _ c n. after-result c (coreOf l (d .p)) n (consoleOf k q o) cost (d .ok) (d .error) ∙ ap (λ (r : Res Request). M.afterAttempt (machine c n (consoleOf k q o)) (attempted cost r)) e;
+        is = λ o _ c n fence. after-result c (coreOf l (d .p)) n (consoleOf k q o) fence cost (d .ok) (d .error) ∙ ap (λ (r : Res Request). M.afterAttempt (machine c n (consoleOf k q o) fence) (attempted cost r)) e;
         room = λ _ t. absurd (true≢false (sym t));
       }
 
@@ -81,12 +81,12 @@ module _ (l : List ℤ) (q : List ℕ) (size : ℕ) (k : ConsoleState) (cost : �
   unfolding M.afterAttempt M.serve
   serves-input h t port value r k' p e f g =
       record {
-        is = λ o _ c n.
-            ap (λ (x : List ℤ). M.conclude cost (machine (core x (p .s)) n (consoleOf k' q o)) (result tt (p .ok) (p .error) (core x (p .s)))) (none-waits h)
-            ∙ conclude-core cost (core l (p .s)) (machine c n (consoleOf k' q o)) (putRes l p)
-            ∙ ap (λ (x : Res (Unit {0})). M.conclude cost (machine c n (consoleOf k' q o)) x) g
-            ∙ ap (λ (y : ℕ × Console). M.conclude cost (machine c n (y .1)) (setRegister r (word (pos (y .0))) (core l t))) (f o)
-            ∙ ap (λ (x : Res Request). M.afterAttempt (machine c n (consoleOf k q o)) (attempted cost x)) e;
+        is = λ o _ c n fence.
+            ap (λ (x : List ℤ). M.conclude cost (machine (core x (p .s)) n (consoleOf k' q o) fence) (result tt (p .ok) (p .error) (core x (p .s)))) (none-waits h)
+            ∙ conclude-core cost (core l (p .s)) (machine c n (consoleOf k' q o) fence) (putRes l p)
+            ∙ ap (λ (x : Res (Unit {0})). M.conclude cost (machine c n (consoleOf k' q o) fence) x) g
+            ∙ ap (λ (y : ℕ × Console). M.conclude cost (machine c n (y .1) fence) (setRegister r (word (pos (y .0))) (core l t))) (f o)
+            ∙ ap (λ (x : Res Request). M.afterAttempt (machine c n (consoleOf k q o) fence) (attempted cost x)) e;
         room = λ _ z. absurd (true≢false (sym z));
       }
 
@@ -95,9 +95,9 @@ module _ (l : List ℤ) (q : List ℕ) (size : ℕ) (k : ConsoleState) (cost : �
   unfolding M.afterAttempt M.serve
   serves-full t port w p e f =
       record {
-        is = λ o h c n.
-            ap (λ (b : Bool). cond b (M.stops OUTPUT-FULL 0 (machine c n (consoleOf k q o))) (M.conclude cost (machine c n (writePort port w (consoleOf k q o))) (ok tt (core l t)))) (f q o h)
-            ∙ ap (λ (x : Res Request). M.afterAttempt (machine c n (consoleOf k q o)) (attempted cost x)) e;
+        is = λ o h c n fence.
+            ap (λ (b : Bool). cond b (M.stops OUTPUT-FULL 0 (machine c n (consoleOf k q o) fence)) (M.conclude cost (machine c n (writePort port w (consoleOf k q o)) fence) (ok tt (core l t)))) (f q o h)
+            ∙ ap (λ (x : Res Request). M.afterAttempt (machine c n (consoleOf k q o) fence) (attempted cost x)) e;
         room = λ z _. absurd (true≢false z);
       }
 
@@ -114,11 +114,11 @@ module _ (l : List ℤ) (q : List ℕ) (size : ℕ) (k : ConsoleState) (cost : �
   unfolding M.afterAttempt M.serve
   serves-sent h t port w y error e f g =
       record {
-        is = λ o z c n.
-            ap (λ (v : List ℤ). M.conclude cost (machine (core v t) n (consoleOf (y .k) q (sent (y .sends) (k .written) (y .byte) o))) (ok tt (core v t))) (none-waits h)
-            ∙ conclude-core cost (core l t) (machine c n (consoleOf (y .k) q (sent (y .sends) (k .written) (y .byte) o))) (ok tt (core l t))
-            ∙ ap (λ (v : Console). M.conclude cost (machine c n v) (ok tt (core l t))) (g .is q o)
-            ∙ ap (λ (b : Bool). cond b (M.stops OUTPUT-FULL 0 (machine c n (consoleOf k q o))) (M.conclude cost (machine c n (writePort port w (consoleOf k q o))) (ok tt (core l t)))) (f q o z)
-            ∙ ap (λ (v : Res Request). M.afterAttempt (machine c n (consoleOf k q o)) (attempted cost v)) e;
+        is = λ o z c n fence.
+            ap (λ (v : List ℤ). M.conclude cost (machine (core v t) n (consoleOf (y .k) q (sent (y .sends) (k .written) (y .byte) o)) fence) (ok tt (core v t))) (none-waits h)
+            ∙ conclude-core cost (core l t) (machine c n (consoleOf (y .k) q (sent (y .sends) (k .written) (y .byte) o)) fence) (ok tt (core l t))
+            ∙ ap (λ (v : Console). M.conclude cost (machine c n v fence) (ok tt (core l t))) (g .is q o)
+            ∙ ap (λ (b : Bool). cond b (M.stops OUTPUT-FULL 0 (machine c n (consoleOf k q o) fence)) (M.conclude cost (machine c n (writePort port w (consoleOf k q o)) fence) (ok tt (core l t)))) (f q o z)
+            ∙ ap (λ (v : Res Request). M.afterAttempt (machine c n (consoleOf k q o) fence) (attempted cost v)) e;
         room = λ _ z. room-for port f (g .port-is z);
       }

@@ -10,7 +10,7 @@ use Rattle.definition.specs.declared.Registers.{Registers}
 use Rattle.definition.specs.Constants.{CYCLES-END}
 use Rattle.definition.specs.Exception.{Ending, exception, stop, OUTPUT-FULL}
 use Rattle.definition.specs.Memory.{empty}
-use Rattle.definition.specs.Registers.{interruptEnable}
+use Rattle.definition.specs.Registers.{supervisor, interruptEnable}
 use Rattle.definition.specs.Io.{with-pending}
 use Rattle.definition.specs.Instructions.{Request, execute}
 use Rattle.definition.specs.Encoding.{Instruction, extractInstruction}
@@ -39,7 +39,11 @@ use Rattle.runtime.specs.declared.perform.Served.{Served}
 use Rattle.runtime.specs.declared.decide.Decision.{Decision}
 
 abbrev pub machineAt : List ℤ → List ℕ → List ℕ → State → Machine
-machineAt l q o m = machine (core l (m .s)) (m .cycles) (consoleOf (m .k) q o)
+machineAt l q o m = machine (core l (m .s)) (m .cycles) (consoleOf (m .k) q o) (m .fence)
+
+-- The first address that a step from m may write.
+abbrev pub guardOf : State → ℕ
+guardOf m = cond (supervisor (m .s)) 0 (m .fence)
 
 abbrev pub endingOf : Ends → Ending
 endingOf r = cond (r .exception) (exception (r .number)) (stop (r .number) (r .detail))
@@ -84,9 +88,10 @@ written enters code p l = saves enters (p .s .pc) (p .s .sr) code (planned l p)
 abbrev pub Room : ℕ → Effects → Type 0
 Room size f = f .sends ≡ true → f .to < size
 
--- The machine with the effects done, after so many cycles.
-abbrev pub effectsAt : List ℤ → List ℕ → List ℕ → ℕ → Effects → Machine
-effectsAt l q o n f = machine (coreOf l (f .p)) n (consoleOf (f .k) q (sent (f .sends) (f .to) (f .byte) o))
+-- The machine with this fence and the effects done, after so many cycles.
+abbrev pub effectsAt : List ℤ → List ℕ → List ℕ → ℕ → ℕ → Effects → Machine
+effectsAt l q o fence n f =
+    machine (coreOf l (f .p)) n (consoleOf (f .k) q (sent (f .sends) (f .to) (f .byte) o)) fence
 
 -- No byte waits, or nothing does.
 abbrev pub unsent : Plan → ConsoleState → Effects
@@ -103,8 +108,9 @@ performedRes l e = result tt (e .ok) (e .error) (coreOf l (e .f .p))
 abbrev pub turnAt : Bool → Bool → ℕ → ℕ → Machine → M.Turn
 turnAt enters stops n d m = cond enters (M.enters n m) (cond stops (M.stops n d m) (M.completes m))
 
-abbrev pub turnOf : List ℤ → List ℕ → List ℕ → Arrival → M.Turn
-turnOf l q o a = turnAt (a .enters) (a .stops) (a .number) (a .detail) (effectsAt l q o (a .cycles) (a .f))
+abbrev pub turnOf : List ℤ → List ℕ → List ℕ → ℕ → Arrival → M.Turn
+turnOf l q o fence a =
+    turnAt (a .enters) (a .stops) (a .number) (a .detail) (effectsAt l q o fence (a .cycles) (a .f))
 
 -- Is an interrupt due, and the console after the poll: "if I is set, the pending mark is taken".
 abbrev pub polled : Registers → ConsoleState → Polled
@@ -112,11 +118,11 @@ polled s k =
     record { due = interruptEnable s && k .marks .pending; k = cond (interruptEnable s) (record { marks = with-pending false (k .marks); start = k .start; count = k .count; written = k .written }) k }
 
 -- The executed instruction e, with its cost, from so many cycles on.
-abbrev pub concluded : List ℤ → List ℕ → List ℕ → Performed → ℕ → ℕ → M.Turn
-concluded l q o e cost cycles = M.conclude cost (effectsAt l q o cycles (e .f)) (performedRes l e)
+abbrev pub concluded : List ℤ → List ℕ → List ℕ → ℕ → Performed → ℕ → ℕ → M.Turn
+concluded l q o fence e cost cycles = M.conclude cost (effectsAt l q o fence cycles (e .f)) (performedRes l e)
 
 pub record Concludes (e : Performed) (cost cycles : ℕ) (a : Arrival) : Type 0 where
-  pub is : (l : List ℤ) (q o : List ℕ) → turnOf l q o a ≡ concluded l q o e cost cycles
+  pub is : (l : List ℤ) (q o : List ℕ) (fence : ℕ) → turnOf l q o fence a ≡ concluded l q o fence e cost cycles
   pub room : (size : ℕ) → Room size (e .f) → Room size (a .f)
   pub soon : a .cycles ≤ cycles + cost
 
@@ -138,17 +144,17 @@ abbrev pub attempted : ℕ → Res Request → Res Executed
 attempted cost (ok q c) = ok (record { cost = cost; request = q }) c
 attempted cost (err e c) = err e c
 
-abbrev pub executedAt : List ℤ → Registers → Instr → Res Request
-executedAt l s i = execute (instrOf i .op) (instrOf i .x) (instrOf i .y) (instrOf i .r₁) (instrOf i .r₂) (core l s)
+abbrev pub executedAt : ℕ → List ℤ → Registers → Instr → Res Request
+executedAt g l s i = execute g (instrOf i .op) (instrOf i .x) (instrOf i .y) (instrOf i .r₁) (instrOf i .r₂) (core l s)
 
 -- Stop 6 leaves m, the machine before the step.
 abbrev pub servedTurn : List ℤ → List ℕ → List ℕ → Machine → ℕ → Served → M.Turn
 servedTurn l q o m cost r =
-    cond (r .full) (M.stops OUTPUT-FULL 0 m) (concluded l q o (r .e) cost (m .cycles))
+    cond (r .full) (M.stops OUTPUT-FULL 0 m) (concluded l q o (m .fence) (r .e) cost (m .cycles))
 
--- What x asks is served. The output record has this size; c and n are any cells, registers and cycles of the machine before the step.
+-- What x asks is served. The output record has this size; c, n and w are any cells, registers, cycles and fence of the machine before the step.
 pub record Serves (l : List ℤ) (q : List ℕ) (size : ℕ) (k : ConsoleState) (cost : ℕ) (x : Res Request) (r : Served) : Type 0 where
-  pub is : (o : List ℕ) → length o ≡ size → (c : Core) (n : ℕ) → servedTurn l q o (machine c n (consoleOf k q o)) cost r ≡ M.afterAttempt (machine c n (consoleOf k q o)) (attempted cost x)
+  pub is : (o : List ℕ) → length o ≡ size → (c : Core) (n w : ℕ) → servedTurn l q o (machine c n (consoleOf k q o) w) cost r ≡ M.afterAttempt (machine c n (consoleOf k q o) w) (attempted cost x)
   pub room : r .full ≡ false → Room size (r .e .f)
 
 -- ---- the step decided
@@ -160,15 +166,15 @@ abbrev pub steppedOf : List ℤ → List ℕ → List ℕ → Stepped → M.Outc
 steppedOf l q o r = outcomeAt (r .completed) (r .stop) (r .detail) (machineAt l q o (r .m))
 
 -- What the one writer leaves: the effects, and after them exception entry, if it comes.
-abbrev pub committed : Bool → List ℤ → List ℕ → List ℕ → Arrival → Machine
-committed enters l q o a =
-    cond enters (M.entered (a .number) (effectsAt l q o (a .cycles) (a .f))) (effectsAt l q o (a .cycles) (a .f))
+abbrev pub committed : Bool → List ℤ → List ℕ → List ℕ → ℕ → Arrival → Machine
+committed enters l q o fence a =
+    cond enters (M.entered (a .number) (effectsAt l q o fence (a .cycles) (a .f))) (effectsAt l q o fence (a .cycles) (a .f))
 
 -- Stop 7 leaves m, the machine before the step.
-abbrev pub decidedOf : List ℤ → List ℕ → List ℕ → State → Arrival → Decision → M.Outcome
-decidedOf l q o m a d =
-    outcomeAt (d .completed) (d .stop) (d .detail) (cond (d .full) (machineAt l q o m) (committed (d .enters) l q o a))
+abbrev pub decidedOf : List ℤ → List ℕ → List ℕ → State → ℕ → Arrival → Decision → M.Outcome
+decidedOf l q o m fence a d =
+    outcomeAt (d .completed) (d .stop) (d .detail) (cond (d .full) (machineAt l q o m) (committed (d .enters) l q o fence a))
 
 pub record Decides (l : List ℤ) (a : Arrival) (d : Decision) : Type 0 where
-  pub is : (m : State) (q o : List ℕ) → decidedOf l q o m a d ≡ M.limit (machineAt l q o m) (M.settle (turnOf l q o a))
+  pub is : (m : State) (q o : List ℕ) (fence : ℕ) → decidedOf l q o m fence a d ≡ M.limit (machineAt l q o m) (M.settle (turnOf l q o fence a))
   pub soon : d .enters ≡ true → a .cycles + 1 < CYCLES-END

@@ -79,9 +79,9 @@ pub fn write(
 }
 
 // The effects of a are written, and after them exception entry, if it comes; the machine afterwards.
-pub fn commit(cells: &mut [i64], output: &mut [u8], a: Arrival, enters: bool) -> State
+pub fn commit(cells: &mut [i64], output: &mut [u8], fence: u32, a: Arrival, enters: bool) -> State
     requires { do ⌜ 256 ≤ cellCount (now cells) ⌝; ⌜ Room (length (now output)) (a .f) ⌝; ⌜ (enters ≡ true → a .cycles + 1 < 2 ^ 64) ⌝ }
-    ensures { λ r. ⌜ ((q : List ℕ) → machineAt (now (cells .exit)) q (now (output .exit)) r ≡ committed enters (now (cells .entry)) q (now (output .entry)) a) ⌝ }
+    ensures { λ r. ⌜ ((q : List ℕ) → machineAt (now (cells .exit)) q (now (output .exit)) r ≡ committed enters (now (cells .entry)) q (now (output .entry)) fence a) ⌝ }
 {
     let f = a.f;
     let p = f.p;
@@ -93,11 +93,13 @@ pub fn commit(cells: &mut [i64], output: &mut [u8], a: Arrival, enters: bool) ->
             s: super::entry::entered_registers(a.number, s),
             cycles: a.cycles + 1,
             k,
+            fence,
         };
     }
     State {
         s,
         cycles: a.cycles,
         k,
+        fence,
     }
 }

@@ -2,6 +2,8 @@
 // in crate computer.
 use console::ConsoleState;
 use definition::Registers;
+ghost use mathlib.Core.Path.{_≡_};
+ghost use Rattle.runtime.specs.Meaning.{guardOf};
 
 pub mod arrive;
 pub mod commit;
@@ -19,6 +21,18 @@ pub struct State {
     pub s: Registers,
     pub cycles: u64,
     pub k: ConsoleState,
+    pub fence: u32,
+}
+
+// The first address that a step from m may write: the fence binds "a step begun with S clear".
+pub fn guard(m: State) -> u32
+    ensures { λ r. ⌜ r ≡ guardOf m ⌝ }
+{
+    if registers::supervisor(m.s) {
+        0
+    } else {
+        m.fence
+    }
 }
 
 // Where a step got: completed, or a stop with its detail.

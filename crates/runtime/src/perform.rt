@@ -45,7 +45,7 @@ fn done(d: Made, k: ConsoleState) -> Served
 // in: the port is read, and then the register set.
 fn input(cells: &[i64], queue: &[u8], s: Registers, k: ConsoleState, i: Instr) -> Served
     requires { do ⌜ (cellCount (now cells) ≤ CELLS-MOST) × (k .start < length (now queue)) ⌝; ⌜ i .op ≡ 6 ⌝ }
-    ensures { λ r. ⌜ ((size : ℕ) → Serves (now (cells .entry)) (now (queue .entry)) size k (i .cost) (executedAt (now (cells .entry)) s i) r) ⌝ }
+    ensures { λ r. ⌜ ((g size : ℕ) → Serves (now (cells .entry)) (now (queue .entry)) size k (i .cost) (executedAt g (now (cells .entry)) s i) r) ⌝ }
 {
     let x = i.x;
     let y = i.y;
@@ -71,7 +71,7 @@ fn output(
     i: Instr,
 ) -> Served
     requires { do ⌜ (cellCount (now cells) ≤ CELLS-MOST) × (k .written ≤ 65536) ⌝; ⌜ i .op ≡ 20 ⌝ }
-    ensures { λ r. ⌜ Serves (now (cells .entry)) (now (queue .entry)) size k (i .cost) (executedAt (now (cells .entry)) s i) r ⌝ }
+    ensures { λ r. ⌜ ((g : ℕ) → Serves (now (cells .entry)) (now (queue .entry)) size k (i .cost) (executedAt g (now (cells .entry)) s i) r) ⌝ }
 {
     let x = i.x;
     let y = i.y;
@@ -102,7 +102,7 @@ fn output(
     done(stores::with_none(registers::refuse(t, error)), k)
 }
 
-// in or out.
+// in or out, which write no cell: no guard is asked.
 pub fn ask(
     cells: &[i64],
     queue: &[u8],
@@ -112,7 +112,7 @@ pub fn ask(
     i: Instr,
 ) -> Served
     requires { do ⌜ (cellCount (now cells) ≤ CELLS-MOST) × ((k .start < length (now queue)) × (k .written ≤ 65536)) ⌝; ⌜ asker (i .op) ≡ true ⌝ }
-    ensures { λ r. ⌜ Serves (now (cells .entry)) (now (queue .entry)) size k (i .cost) (executedAt (now (cells .entry)) s i) r ⌝ }
+    ensures { λ r. ⌜ ((g : ℕ) → Serves (now (cells .entry)) (now (queue .entry)) size k (i .cost) (executedAt g (now (cells .entry)) s i) r) ⌝ }
 {
     let op = i.op;
     if op == 6 {

@@ -35,6 +35,6 @@ pub fn raise(cells: &mut [i64], m: State, code: u32) -> Stepped
     if d.full {
         return super::settle::leaves(d, m);
     }
-    let after = super::commit::commit(cells, &mut [], a, d.enters);
+    let after = super::commit::commit(cells, &mut [], m.fence, a, d.enters);
     super::settle::leaves(d, after)
 }

@@ -23,15 +23,15 @@ pub fn leaves(d: Decision, m: State) -> Stepped
     }
 }
 
-// m is the machine before the step, which stop 7 leaves.
-pub fn settle(cells: &mut [i64], output: &mut [u8], m: State, a: Arrival) -> Stepped
+// m is the machine before the step, which stop 7 leaves; the fence is that of every step.
+pub fn settle(cells: &mut [i64], output: &mut [u8], m: State, fence: u32, a: Arrival) -> Stepped
     requires { do ⌜ (256 ≤ cellCount (now cells)) × (cellCount (now cells) ≤ 10000) ⌝; ⌜ a .cycles + 1 < 2 ^ 64 ⌝; ⌜ Room (length (now output)) (a .f) ⌝ }
-    ensures { λ r. ⌜ ((q : List ℕ) → steppedOf (now (cells .exit)) q (now (output .exit)) r ≡ limit (machineAt (now (cells .entry)) q (now (output .entry)) m) (settle (turnOf (now (cells .entry)) q (now (output .entry)) a))) ⌝ }
+    ensures { λ r. ⌜ ((q : List ℕ) → steppedOf (now (cells .exit)) q (now (output .exit)) r ≡ limit (machineAt (now (cells .entry)) q (now (output .entry)) m) (settle (turnOf (now (cells .entry)) q (now (output .entry)) fence a))) ⌝ }
 {
     let d = super::decide::decide(cells, a);
     if d.full {
         return leaves(d, m);
     }
-    let after = super::commit::commit(cells, output, a, d.enters);
+    let after = super::commit::commit(cells, output, fence, a, d.enters);
     leaves(d, after)
 }

@@ -4,7 +4,9 @@ use mathlib.Core.Bool.{Bool, true, false, cond}
 use mathlib.Core.List.{List}
 use Prim.Native.Nat.{ℕ, zero, suc, _<_, _≤_}
 use lib.IntN.{ℤ}
-use borrow.Author.Tests.{lt-ltb, le-ltb}
+use lib.Dec.{ltb, leb}
+use borrow.Author.Tests.{ltb-true}
+use Rattle.definition.proofs.Verdict.{and-left}
 use Rattle.definition.specs.declared.Cell.{Cell}
 use Rattle.definition.specs.declared.Registers.{Registers}
 use Rattle.definition.specs.declared.Error.{Error}
@@ -13,7 +15,7 @@ use Rattle.definition.specs.Constants.{CELLS-MOST}
 use Rattle.definition.specs.Memory.{empty, cellCount}
 use Rattle.definition.specs.Registers.{Reg, regAt, putReg, refused, with-sp}
 use Rattle.definition.specs.Arguments.{operand, resolve, resolved}
-use Rattle.definition.specs.Exec.{Res, Exec, core, ok, err, andThen, branch, orAddress, orPut, write, push, below}
+use Rattle.definition.specs.Exec.{Res, Exec, core, ok, err, andThen, branch, orAddress, orPut, permits, write, push, below}
 use Rattle.definition.specs.Instructions.{placeOf, setRegister, swapBack}
 use Rattle.memory.specs.Overlay.{overlay}
 use Rattle.memory.proofs.Laws.{over-in, over-no-cell}
@@ -71,26 +73,26 @@ set-after-is l r v d {m} h = go (d .ok) refl
 
 -- cells written
 module _ (l : List ℤ) (s : Registers) where
-  module _ (n : ℕ) (v : Cell) where
-    pub write-in : n < cellCount l → ok tt (core (overlay n v l) s) ≡ write n v (core l s)
-    unfolding write branch
-    write-in h = rw (over-in l n v h, lt-ltb n (cellCount l) h)
+  module _ (g n : ℕ) (v : Cell) where
+    pub write-in : permits g n l ≡ true → ok tt (core (overlay n v l) s) ≡ write g n v (core l s)
+    unfolding write branch permits
+    write-in h = rw (over-in l n v (ltb-true n (cellCount l) (and-left (ltb n (cellCount l)) (leb g n) h)), h)
 
-    pub write-out : cellCount l ≤ n → err InvalidMemoryAccess (core l s) ≡ write n v (core l s)
+    pub write-out : permits g n l ≡ false → err InvalidMemoryAccess (core l s) ≡ write g n v (core l s)
     unfolding write branch
-    write-out h = rw (le-ltb n (cellCount l) h)
+    write-out h = rw h
 
-    pub push-at : n ≡ below (s .sp) → write n v (core l (with-sp n s)) ≡ push v (core l s)
+    pub push-at : n ≡ below (s .sp) → write g n v (core l (with-sp n s)) ≡ push g v (core l s)
     unfolding push andThen
-    push-at h = ap (λ (k : ℕ). write k v (core l (with-sp k s))) h
+    push-at h = ap (λ (k : ℕ). write g k v (core l (with-sp k s))) h
 
   -- swap's second half
-  module _ (x : Arg) (v : Cell) where
-    pub back-reg : x .mode ≡ 2 → orPut (putReg (regAt (x .reg)) v s) (core l s) ≡ swapBack (argOf x) v (core l s)
+  module _ (g : ℕ) (x : Arg) (v : Cell) where
+    pub back-reg : x .mode ≡ 2 → orPut (putReg (regAt (x .reg)) v s) (core l s) ≡ swapBack g (argOf x) v (core l s)
     unfolding operand swapBack
-    back-reg h = ap (λ (m : ℕ). swapBack (operand m (x .reg) (x .number)) v (core l s)) (sym h)
+    back-reg h = ap (λ (m : ℕ). swapBack g (operand m (x .reg) (x .number)) v (core l s)) (sym h)
 
-    back-by : (m : ℕ) → (m ≡ 2 → ⊥) → andThen (placeOf (operand m (x .reg) (x .number)) (core l s)) (λ n. write n v) ≡ swapBack (operand m (x .reg) (x .number)) v (core l s)
+    back-by : (m : ℕ) → (m ≡ 2 → ⊥) → andThen (placeOf (operand m (x .reg) (x .number)) (core l s)) (λ n. write g n v) ≡ swapBack g (operand m (x .reg) (x .number)) v (core l s)
     unfolding operand swapBack andThen orAddress resolve resolved
     back-by zero h = refl
     back-by (suc zero) h = refl
@@ -100,5 +102,5 @@ module _ (l : List ℤ) (s : Registers) where
     back-by (suc (suc (suc (suc (suc zero))))) h = refl
     back-by (suc (suc (suc (suc (suc (suc m)))))) h = refl
 
-    pub back-memory : (x .mode ≡ 2 → ⊥) → andThen (placeOf (argOf x) (core l s)) (λ n. write n v) ≡ swapBack (argOf x) v (core l s)
+    pub back-memory : (x .mode ≡ 2 → ⊥) → andThen (placeOf (argOf x) (core l s)) (λ n. write g n v) ≡ swapBack g (argOf x) v (core l s)
     back-memory h = back-by (x .mode) h

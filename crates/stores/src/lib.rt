@@ -65,13 +65,13 @@ fn fails(s: Registers, error: Error) -> Made
     with_none(registers::refuse(s, error))
 }
 
-// Computer::write
-pub fn write_at(cells: &[i64], s: Registers, n: u32, v: Cell) -> Made
+// Computer::write: `guard` is the first address that the step may write, 0 or the fence. The one place where a write is decided.
+pub fn write_at(cells: &[i64], guard: u32, s: Registers, n: u32, v: Cell) -> Made
     requires { do ⌜ cellCount (now cells) ≤ CELLS-MOST ⌝ }
-    ensures { λ d. ⌜ madeRes (now (cells .entry)) d ≡ write n v (core (now (cells .entry)) s) ⌝ }
+    ensures { λ d. ⌜ madeRes (now (cells .entry)) d ≡ write guard n v (core (now (cells .entry)) s) ⌝ }
 {
     let at = n as usize;
-    if at < cells.len() / 3 {
+    if (at < cells.len() / 3) & (guard <= n) {
         with_cell(registers::accept(s), n, v)
     } else {
         fails(s, Error::InvalidMemoryAccess)
@@ -79,34 +79,34 @@ pub fn write_at(cells: &[i64], s: Registers, n: u32, v: Cell) -> Made
 }
 
 // Computer::push: "the push then raises code 5 and sp stays so"
-pub fn push_cell(cells: &[i64], s: Registers, v: Cell) -> Made
+pub fn push_cell(cells: &[i64], guard: u32, s: Registers, v: Cell) -> Made
     requires { do ⌜ cellCount (now cells) ≤ CELLS-MOST ⌝ }
-    ensures { λ d. ⌜ madeRes (now (cells .entry)) d ≡ push v (core (now (cells .entry)) s) ⌝ }
+    ensures { λ d. ⌜ madeRes (now (cells .entry)) d ≡ push guard v (core (now (cells .entry)) s) ⌝ }
 {
     let sp = registers::below(s.sp);
     let mut t = s;
     t.sp = sp;
-    write_at(cells, t, sp, v)
+    write_at(cells, guard, t, sp, v)
 }
 
-pub fn push(cells: &[i64], s: Registers, x: Arg) -> Made
+pub fn push(cells: &[i64], guard: u32, s: Registers, x: Arg) -> Made
     requires { do ⌜ cellCount (now cells) ≤ CELLS-MOST ⌝ }
-    ensures { λ d. ⌜ madeRes (now (cells .entry)) d ≡ pushOp (argOf x) (core (now (cells .entry)) s) ⌝ }
+    ensures { λ d. ⌜ madeRes (now (cells .entry)) d ≡ pushOp guard (argOf x) (core (now (cells .entry)) s) ⌝ }
 {
     let given = arguments::cell_of(cells, s, x);
     let t = given.s;
     if given.ok {
         let v = given.value;
-        return push_cell(cells, t, v);
+        return push_cell(cells, guard, t, v);
     }
     let error = given.error;
     fails(t, error)
 }
 
 // "st takes a word, so empty becomes word 0 and an instruction stops."
-pub fn st(cells: &[i64], s: Registers, r: u32, y: Arg) -> Made
+pub fn st(cells: &[i64], guard: u32, s: Registers, r: u32, y: Arg) -> Made
     requires { do ⌜ cellCount (now cells) ≤ CELLS-MOST ⌝ }
-    ensures { λ d. ⌜ madeRes (now (cells .entry)) d ≡ st (regAt r) (argOf y) (core (now (cells .entry)) s) ⌝ }
+    ensures { λ d. ⌜ madeRes (now (cells .entry)) d ≡ st guard (regAt r) (argOf y) (core (now (cells .entry)) s) ⌝ }
 {
     let given = arguments::register_word(s, r);
     let t = given.s;
@@ -114,7 +114,7 @@ pub fn st(cells: &[i64], s: Registers, r: u32, y: Arg) -> Made
         let place = arguments::address_of(t, y);
         let u = place.s;
         if place.ok {
-            return write_at(cells, u, place.value, memory::word_cell(given.value));
+            return write_at(cells, guard, u, place.value, memory::word_cell(given.value));
         }
         let error = place.error;
         return fails(u, error);
@@ -124,11 +124,11 @@ pub fn st(cells: &[i64], s: Registers, r: u32, y: Arg) -> Made
 }
 
 // "call pushes pc before it reads its operand."
-pub fn call(cells: &[i64], s: Registers, x: Arg) -> Made
+pub fn call(cells: &[i64], guard: u32, s: Registers, x: Arg) -> Made
     requires { do ⌜ cellCount (now cells) ≤ CELLS-MOST ⌝ }
-    ensures { λ d. ⌜ madeRes (now (cells .entry)) d ≡ call (argOf x) (core (now (cells .entry)) s) ⌝ }
+    ensures { λ d. ⌜ madeRes (now (cells .entry)) d ≡ call guard (argOf x) (core (now (cells .entry)) s) ⌝ }
 {
-    let d = push_cell(cells, s, memory::address_cell(s.pc));
+    let d = push_cell(cells, guard, s, memory::address_cell(s.pc));
     let p = d.p;
     if d.ok {
         let v = p.v;
@@ -146,9 +146,9 @@ pub fn call(cells: &[i64], s: Registers, x: Arg) -> Made
 }
 
 // "fas writes word 1 before the register is set, so a refused register leaves the cell changed."
-pub fn fas(cells: &[i64], s: Registers, x: Arg, r: u32) -> Made
+pub fn fas(cells: &[i64], guard: u32, s: Registers, x: Arg, r: u32) -> Made
     requires { do ⌜ cellCount (now cells) ≤ CELLS-MOST ⌝ }
-    ensures { λ d. ⌜ madeRes (now (cells .entry)) d ≡ fas (argOf x) (regAt r) (core (now (cells .entry)) s) ⌝ }
+    ensures { λ d. ⌜ madeRes (now (cells .entry)) d ≡ fas guard (argOf x) (regAt r) (core (now (cells .entry)) s) ⌝ }
 {
     let place = arguments::address_of(s, x);
     let t = place.s;
@@ -157,7 +157,11 @@ pub fn fas(cells: &[i64], s: Registers, x: Arg, r: u32) -> Made
         let u = old.s;
         if old.ok {
             let v = old.value;
-            return set_after(write_at(cells, u, place.value, memory::word_cell(1)), r, v);
+            return set_after(
+                write_at(cells, guard, u, place.value, memory::word_cell(1)),
+                r,
+                v,
+            );
         }
         let error = old.error;
         return fails(u, error);
@@ -180,9 +184,9 @@ fn set_after(d: Made, r: u32, v: Cell) -> Made
 }
 
 // The second half of swap: the register's old cell goes to the operand, found from the new registers.
-pub fn swap_back(cells: &[i64], s: Registers, x: Arg, v: Cell) -> Made
+pub fn swap_back(cells: &[i64], guard: u32, s: Registers, x: Arg, v: Cell) -> Made
     requires { do ⌜ cellCount (now cells) ≤ CELLS-MOST ⌝ }
-    ensures { λ d. ⌜ madeRes (now (cells .entry)) d ≡ swapBack (argOf x) v (core (now (cells .entry)) s) ⌝ }
+    ensures { λ d. ⌜ madeRes (now (cells .entry)) d ≡ swapBack guard (argOf x) v (core (now (cells .entry)) s) ⌝ }
 {
     if x.mode == 2 {
         return with_none(registers::put_reg(s, x.reg, v));
@@ -190,16 +194,16 @@ pub fn swap_back(cells: &[i64], s: Registers, x: Arg, v: Cell) -> Made
     let place = arguments::address_of(s, x);
     let t = place.s;
     if place.ok {
-        return write_at(cells, t, place.value, v);
+        return write_at(cells, guard, t, place.value, v);
     }
     let error = place.error;
     fails(t, error)
 }
 
 // "swap writes its register first and resolves the memory address from the new registers."
-pub fn swap(cells: &[i64], s: Registers, x: Arg, r: u32) -> Made
+pub fn swap(cells: &[i64], guard: u32, s: Registers, x: Arg, r: u32) -> Made
     requires { do ⌜ cellCount (now cells) ≤ CELLS-MOST ⌝ }
-    ensures { λ d. ⌜ madeRes (now (cells .entry)) d ≡ swap (argOf x) (regAt r) (core (now (cells .entry)) s) ⌝ }
+    ensures { λ d. ⌜ madeRes (now (cells .entry)) d ≡ swap guard (argOf x) (regAt r) (core (now (cells .entry)) s) ⌝ }
 {
     let given = arguments::cell_of(cells, s, x);
     let t = given.s;
@@ -208,7 +212,7 @@ pub fn swap(cells: &[i64], s: Registers, x: Arg, r: u32) -> Made
         let q = registers::put_reg(t, r, v);
         let u = q.s;
         if q.ok {
-            return swap_back(cells, u, x, registers::get_reg(t, r));
+            return swap_back(cells, guard, u, x, registers::get_reg(t, r));
         }
         return with_none(q);
     }

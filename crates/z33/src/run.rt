@@ -4,7 +4,7 @@ ghost use mathlib.Core.Path.{_≡_};
 ghost use Rattle.definition.specs.Calls.{called, lent, runCall};
 
 // The answer of a run that was taken.
-fn ran(stop: u32, detail: u32, steps: u32, empty: u64) -> Ran
+fn ran(stop: u32, detail: u32, steps: u64, empty: u64) -> Ran
     ensures { λ r. ⌜ r ≡ record { refusal = 0; place = 0; stop = stop; detail = detail; steps = steps; empty = empty } ⌝ }
 {
     Ran {
@@ -12,7 +12,7 @@ fn ran(stop: u32, detail: u32, steps: u32, empty: u64) -> Ran
         place: 0,
         stop: stop as u64,
         detail: detail as u64,
-        steps: steps as u64,
+        steps,
         empty,
     }
 }
@@ -24,7 +24,7 @@ pub extern "C" fn z33_run(
     queue: &mut [u8],
     output: &mut [u8],
     row: &mut [i64],
-    budget: u32,
+    budget: u64,
 ) -> Ran
     ensures { λ r. ⌜ called r (lent (now (cells .exit)) (now (queue .exit)) (now (output .exit)) (now (row .exit))) ≡ runCall budget (lent (now (cells .entry)) (now (queue .entry)) (now (output .entry)) (now (row .entry))) ⌝ }
 {
@@ -35,7 +35,7 @@ pub extern "C" fn z33_run(
         let after = e.m;
         let s = after.s;
         let k = after.k;
-        row::write_row(row, s, after.cycles, k);
+        row::write_row(row, s, after.cycles, k, after.fence);
         return ran(e.stop, e.detail, e.steps, e.empty);
     }
     Ran {

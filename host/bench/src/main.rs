@@ -14,14 +14,14 @@ type Machine = (Vec<i64>, Row);
 const QUEUE: usize = 256;
 const OUTPUT: usize = 4_096;
 
-fn original(program: &Program, steps: u32) -> (u64, Machine) {
+fn original(program: &Program, steps: u64) -> (u64, Machine) {
     let mut judge = Judge::new(&program.cells, &[0; QUEUE], &[0; OUTPUT], &program.row);
     let spent = clock::time(|| judge.steps_alone(steps));
     judge.refresh();
     (spent, (judge.cells().to_vec(), *judge.row()))
 }
 
-fn plain(program: &Program, steps: u32) -> (u64, Machine) {
+fn plain(program: &Program, steps: u64) -> (u64, Machine) {
     let (mut cells, mut row) = (program.cells.clone(), program.row);
     let spent = clock::time(|| {
         plain::run(&mut cells, &mut [0; QUEUE], &mut [0; OUTPUT], &mut row, steps);
@@ -29,7 +29,7 @@ fn plain(program: &Program, steps: u32) -> (u64, Machine) {
     (spent, (cells, row))
 }
 
-fn library(program: &Program, steps: u32) -> (u64, Machine) {
+fn library(program: &Program, steps: u64) -> (u64, Machine) {
     let (mut cells, mut row) = (program.cells.clone(), program.row);
     let spent = clock::time(|| {
         z33::run(&mut cells[..], &mut [0; QUEUE][..], &mut [0; OUTPUT][..], &mut row[..], steps);
@@ -37,18 +37,18 @@ fn library(program: &Program, steps: u32) -> (u64, Machine) {
     (spent, (cells, row))
 }
 
-fn best_and_median(times: &mut [u64], steps: u32) -> (f64, f64) {
+fn best_and_median(times: &mut [u64], steps: u64) -> (f64, f64) {
     times.sort_unstable();
-    let a_step = |t: u64| t as f64 / f64::from(steps);
+    let a_step = |t: u64| t as f64 / steps as f64;
     (a_step(times[0]), a_step(times[times.len() / 2]))
 }
 
-type Run = fn(&Program, u32) -> (u64, Machine);
+type Run = fn(&Program, u64) -> (u64, Machine);
 
 const MACHINES: [(&str, Run); 3] = [("original", original), ("plain", plain), ("library", library)];
 
 /// One line: nanoseconds a step of the three, and how many times faster the library is.
-fn compare(program: &Program, steps: u32, rounds: usize) {
+fn compare(program: &Program, steps: u64, rounds: usize) {
     let mut times = [const { Vec::new() }; 3];
     for _ in 0..rounds {
         let ends = MACHINES.map(|(_, run)| run(program, steps));
@@ -74,7 +74,7 @@ fn compare(program: &Program, steps: u32, rounds: usize) {
 }
 
 /// What a call costs before its first step, at its best of 500.
-fn acceptance(program: &Program, budget: u32) {
+fn acceptance(program: &Program, budget: u64) {
     let (mut cells, mut row) = (program.cells.clone(), program.row);
     let (mut queue, mut output) = ([0; QUEUE], [0; OUTPUT]);
     let spent = (0..500).map(|_| {
@@ -86,10 +86,10 @@ fn acceptance(program: &Program, budget: u32) {
     println!("a call on 10,000 {}, budget {budget}: {:.1} us", program.name, best as f64 / 1e3);
 }
 
-fn growth(program: &Program, most: u32) {
-    for steps in (3..=8).map(|power| 10_u32.pow(power)).filter(|&steps| steps <= most) {
+fn growth(program: &Program, most: u64) {
+    for steps in (3..=8).map(|power| 10_u64.pow(power)).filter(|&steps| steps <= most) {
         let (spent, _) = library(program, steps);
-        println!("{steps:>9} steps of {}: {:.2} ns a step", program.name, spent as f64 / f64::from(steps));
+        println!("{steps:>9} steps of {}: {:.2} ns a step", program.name, spent as f64 / steps as f64);
     }
 }
 
@@ -108,7 +108,7 @@ fn exercise(cells: usize, rounds: usize) {
     );
 }
 
-fn alone(machine: &str, name: &str, steps: u32) {
+fn alone(machine: &str, name: &str, steps: u64) {
     let (_, run) = MACHINES.iter().find(|m| m.0 == machine).expect("original, plain or library");
     let programs = programs::all();
     let program = programs
@@ -118,7 +118,7 @@ fn alone(machine: &str, name: &str, steps: u32) {
     run(program, steps);
 }
 
-fn measure(steps: u32, rounds: usize) {
+fn measure(steps: u64, rounds: usize) {
     println!("ns a step, best and median of {rounds} rounds of {steps} steps");
     println!("{:34} {:13}   {:13}   {:13}   library is faster than", "", "original", "plain", "library");
     println!("{:34} {:13}   {:13}   {:13}   original, plain", "", "", "", "");
@@ -133,7 +133,7 @@ fn measure(steps: u32, rounds: usize) {
     growth(&programs[0], steps.saturating_mul(5));
 }
 
-fn number(word: &str) -> u32 {
+fn number(word: &str) -> u64 {
     word.parse().expect("a number")
 }
 

@@ -53,7 +53,7 @@ impl Asked {
             Call::Fresh => z33::fresh(cells.lend(null), row.lend(null)).into(),
             Call::Run => {
                 let (queue, output) = (queue.lend(null), output.lend(null));
-                z33::run(cells.lend(null), queue, output, row.lend(null), number as u32).into()
+                z33::run(cells.lend(null), queue, output, row.lend(null), number).into()
             }
             Call::Deliver => z33::deliver(queue.lend(null), row.lend(null), bytes.show(null)).into(),
             Call::Drain => z33::drain(output.show(null), row.lend(null), bytes.lend(null)).into(),

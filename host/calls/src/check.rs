@@ -3,6 +3,7 @@
 use draws::rng::Rng;
 use layout::limit::CELLS_MOST;
 use layout::refusal::DAMAGED_CELL;
+use layout::stop::BUDGET_SPENT;
 
 use crate::asked::Asked;
 use crate::coverage::{Coverage, all_pairs};
@@ -16,6 +17,9 @@ const EACH_PAIR: usize = 12;
 /// For each of the eight calls.
 const ACCEPTED: usize = 25_000;
 const ANYTHING: usize = 25_000;
+/// Runs that end by themselves, each on budgets that 32 bits do not hold.
+const LONG: usize = 3_000;
+const LONG_BUDGETS: [u64; 4] = [1 << 32, (1 << 32) + 1, 1 << 63, u64::MAX];
 
 /// Lines that say what was looked at, or the first difference.
 pub fn check(seed: u64) -> Result<Vec<String>, String> {
@@ -28,12 +32,17 @@ pub fn check(seed: u64) -> Result<Vec<String>, String> {
         check.without_fault(call)?;
         check.anything(call)?;
     }
+    check.long_budgets()?;
     let tags = tags::check()?;
     let huge = huge::check()?;
     let exercise = exercise::check(seed)?;
     Ok(vec![
         check.coverage.complete()?,
         format!("{tags} cells, each read, loaded and in register a: sound or refused as document 01 has it"),
+        format!(
+            "{LONG} runs that end by themselves, each on {} budgets of 2^32 to 2^64 - 1",
+            LONG_BUDGETS.len()
+        ),
         huge,
         exercise,
     ])
@@ -116,6 +125,25 @@ impl Check {
         for _ in 0..ACCEPTED {
             let trial = accepted::draw(&mut self.rng, call);
             self.due(trial, &[])?;
+        }
+        Ok(())
+    }
+
+    fn long_budgets(&mut self) -> Result<(), String> {
+        let mut ended = 0;
+        while ended < LONG {
+            let mut trial = accepted::draw(&mut self.rng, Call::Run);
+            let answer = self.asked.check(&trial)?;
+            if answer.rest[0] as u64 == BUDGET_SPENT {
+                continue;
+            }
+            ended += 1;
+            for budget in LONG_BUDGETS {
+                trial.number = budget;
+                if self.asked.check(&trial)? != answer {
+                    return Err(format!("{}: another answer than on fewer steps, {answer:?}", trial.told()));
+                }
+            }
         }
         Ok(())
     }

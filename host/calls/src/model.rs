@@ -78,7 +78,7 @@ fn performed(trial: &Trial, lent: &mut Lent) -> [i64; REST] {
     match trial.call {
         Call::Fresh => fresh(cells, row),
         Call::Run => {
-            let ran = plain::run(cells, queue, output, tested_row(row), number as u32);
+            let ran = plain::run(cells, queue, output, tested_row(row), number);
             [ran.stop, ran.detail, ran.steps, ran.empty].map(|number| number as i64)
         }
         Call::Deliver => done(plain::deliver(queue, tested_row(row), bytes) == refusal::NONE),

@@ -140,7 +140,7 @@ impl Directed {
         self.run(1, stop, detail, 0)
     }
 
-    pub fn run(self, budget: u32, stop: u64, detail: u64, count: u64) -> Self {
+    pub fn run(self, budget: u64, stop: u64, detail: u64, count: u64) -> Self {
         self.call(Call::Run(budget), Answer { refusal: refusal::NONE, stop, detail, count, empty: 0 })
     }
 

@@ -54,9 +54,9 @@ impl Driver {
         answered
     }
 
-    fn run(&mut self, budget: u32) -> Answer {
+    fn run(&mut self, budget: u64) -> Answer {
         let mut answer = Answer::DONE;
-        while answer.count < u64::from(budget) {
+        while answer.count < budget {
             let step = self.step();
             if !step.completed {
                 return Answer { stop: step.stop, detail: step.detail, ..answer };

@@ -56,7 +56,7 @@ fn draw(fill: Fill, seed: u64) -> Case {
 fn calls(rng: &mut Rng, layout: &Layout) -> Vec<Call> {
     let mut calls = Vec::new();
     for _ in 0..RUNS {
-        calls.push(Call::Run(rng.between(1, 60) as u32));
+        calls.push(Call::Run(rng.between(1, 60) as u64));
         if rng.once_in(2) {
             calls.push(Call::SetRegister(rng.below(2) as u64, programs::near(rng, layout)));
         }

@@ -95,10 +95,10 @@ impl<'m> Harness<'m> {
         Ok(due)
     }
 
-    fn run(&mut self, budget: u32) -> Result<Answer, String> {
+    fn run(&mut self, budget: u64) -> Result<Answer, String> {
         let mut whole = (budget != 1).then(|| self.lent.clone());
         let mut answer = Answer::DONE;
-        while answer.count < u64::from(budget) {
+        while answer.count < budget {
             let step = self.step()?;
             if step.count == 0 {
                 (answer.stop, answer.detail) = (step.stop, step.detail);

@@ -124,9 +124,9 @@ fn calls(rng: &mut Rng, layout: &Layout) -> Vec<Call> {
 }
 
 /// One step, a few, or many.
-fn budget(rng: &mut Rng) -> u32 {
+fn budget(rng: &mut Rng) -> u64 {
     let most = rng.pick(&[1, 90, 90, 90, 90, 2_000]);
-    rng.between(most / 2, most) as u32
+    rng.between(most / 2, most) as u64
 }
 
 /// Deliver, drain, raise or set register, refused ones among them.

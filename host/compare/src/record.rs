@@ -24,7 +24,7 @@ const FOR_RUNNER: [(usize, u64); 7] = [(12, 0), (170, 20), (90, 10), (20, 5), (8
 /// How many more of them read an operand outside, and after how many steps they end at least.
 const OUTSIDE_FOR_RUNNER: (usize, u64) = (40, 10);
 /// A program that is to end by itself does so within so many steps.
-const LIMIT: u32 = 5_000;
+const LIMIT: u64 = 5_000;
 const SEED: u64 = 33;
 
 pub struct List {

@@ -19,7 +19,7 @@ pub struct Ended {
 
 /// A program that the runner runs as the judge does; none where the draw touched a cell from 2,048 on,
 /// or that has not stopped when the limit, in steps, is at an end.
-pub fn draw(rng: &mut Rng, judge: &mut Judge, limit: u32) -> Option<(Case, Ended)> {
+pub fn draw(rng: &mut Rng, judge: &mut Judge, limit: u64) -> Option<(Case, Ended)> {
     let layout = Layout {
         code: rng.pick(&[0, 300, 1_000]),
         length: rng.between(4, 40),
@@ -72,7 +72,7 @@ fn count_down(rng: &mut Rng, layout: &Layout, case: &mut Case) {
 }
 
 /// The judge's answer, where no step touches a cell from 2,048 on and 2,048 cells give the same.
-pub fn same_in_the_runner(judge: &mut Judge, case: &Case, limit: u32) -> Option<Ended> {
+pub fn same_in_the_runner(judge: &mut Judge, case: &Case, limit: u64) -> Option<Ended> {
     let lent = case.lent();
     judge.put(&lent.cells, &lent.queue, &lent.output, &lent.row);
     let ended = run_below(judge, limit)?;
@@ -85,9 +85,9 @@ pub fn same_in_the_runner(judge: &mut Judge, case: &Case, limit: u32) -> Option<
 }
 
 /// Runs the judge on the runner's budget; none once a step touches a cell from 2,048 on.
-fn run_below(judge: &mut Judge, limit: u32) -> Option<Ended> {
+fn run_below(judge: &mut Judge, limit: u64) -> Option<Ended> {
     let mut ended = Ended { answer: Answer::DONE, read_outside: false };
-    while ended.answer.count < u64::from(BUDGET.min(limit)) {
+    while ended.answer.count < BUDGET.min(limit) {
         let before = *judge.row();
         let cell = crate::driver::fetched(judge);
         let step = judge.step();

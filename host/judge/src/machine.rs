@@ -223,10 +223,10 @@ impl Judge {
     }
 
     /// Steps until one is not completed or the budget is spent; no fence is looked at.
-    pub fn run(&mut self, budget: u32) -> Ran {
+    pub fn run(&mut self, budget: u64) -> Ran {
         self.changed.clear();
         let mut ran = Ran { stop: stop::BUDGET_SPENT, detail: 0, steps: 0, read_outside: 0 };
-        while ran.steps < u64::from(budget) {
+        while ran.steps < budget {
             let step = self.step_on();
             ran.read_outside += u64::from(step.read_outside);
             if !step.completed {
@@ -238,7 +238,7 @@ impl Judge {
     }
 
     /// `Computer::step` alone, to time it: the buffers stay behind until `refresh`.
-    pub fn steps_alone(&mut self, n: u32) {
+    pub fn steps_alone(&mut self, n: u64) {
         for _ in 0..n {
             if self.computer.step().is_err() {
                 return;

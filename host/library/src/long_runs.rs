@@ -10,7 +10,7 @@ use z33::Library;
 
 /// A program is long that takes so many steps; most draws stop before.
 const LONG: u64 = 20_000;
-const MOST: u32 = 300_000;
+const MOST: u64 = 300_000;
 const PROGRAMS: usize = 60;
 const MOST_DRAWS: usize = 200_000;
 
@@ -50,8 +50,8 @@ fn long_on_plain(case: &Case) -> Option<Answer> {
 }
 
 /// A run that ends by itself is given the largest budget there is.
-fn budget(rng: &mut Rng, answer: &Answer) -> u32 {
-    if answer.stop != BUDGET_SPENT { u32::MAX } else { rng.between(LONG as i64, MOST.into()) as u32 }
+fn budget(rng: &mut Rng, answer: &Answer) -> u64 {
+    if answer.stop != BUDGET_SPENT { u64::MAX } else { rng.between(LONG as i64, MOST as i64) as u64 }
 }
 
 /// The steps that both took, and the words from empty cells.

@@ -18,7 +18,7 @@ pub struct Case {
 
 #[derive(Clone, Debug, PartialEq, Eq)]
 pub enum Call {
-    Run(u32),
+    Run(u64),
     Deliver(Vec<u8>),
     Drain(usize),
     Raise(u64),

@@ -37,7 +37,7 @@ impl Lent {
 
 /// What is compared with the judge. Each call is lent everything and holds nothing back.
 pub trait Machine {
-    fn run(&mut self, lent: &mut Lent, budget: u32) -> Answer;
+    fn run(&mut self, lent: &mut Lent, budget: u64) -> Answer;
     fn deliver(&mut self, lent: &mut Lent, bytes: &[u8]) -> Answer;
     fn drain(&mut self, lent: &mut Lent, buffer: &mut [u8]) -> Answer;
     fn raise(&mut self, lent: &mut Lent, code: u64) -> Answer;
@@ -48,7 +48,7 @@ pub trait Machine {
 pub struct Plain;
 
 impl Machine for Plain {
-    fn run(&mut self, lent: &mut Lent, budget: u32) -> Answer {
+    fn run(&mut self, lent: &mut Lent, budget: u64) -> Answer {
         let Lent { cells, queue, output, row } = lent;
         let ran = plain::run(cells, queue, output, row, budget);
         Answer { stop: ran.stop, detail: ran.detail, count: ran.steps, empty: ran.empty, ..Answer::DONE }

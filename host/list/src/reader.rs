@@ -78,7 +78,7 @@ impl<'m> Replay<'m> {
             7 => self.empty = number(a)? as u64,
             10 => {
                 let empty = std::mem::take(&mut self.empty);
-                self.call(Call::Run(number(a)? as u32), Answer { empty, ..answer(0, b, c, d) });
+                self.call(Call::Run(a as u64), Answer { empty, ..answer(0, b, c, d) });
             }
             11 => {
                 let bytes = std::mem::take(&mut self.delivered);

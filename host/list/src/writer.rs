@@ -51,7 +51,7 @@ impl Writer {
                 if empty > 0 {
                     line(text, [7, empty, 0, 0, 0]);
                 }
-                line(text, [10, (*budget).into(), stop, detail, count]);
+                line(text, [10, *budget as i64, stop, detail, count]);
             }
             Call::Deliver(bytes) => {
                 assert!(bytes.len() <= MOST_DELIVERED);

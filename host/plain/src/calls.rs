@@ -22,14 +22,14 @@ pub struct Raised {
     pub detail: u64,
 }
 
-pub fn run(cells: &mut [i64], queue: &mut [u8], output: &mut [u8], row: &mut Row, budget: u32) -> Ran {
+pub fn run(cells: &mut [i64], queue: &mut [u8], output: &mut [u8], row: &mut Row, budget: u64) -> Ran {
     let console = console_of(queue, output, row);
     let (timer, state) = (timer_of(row), state_of(row));
     let mut machine = Machine { cells, console, timer, state, empty: 0, closed: 0 };
     let mut ran = Ran { stop: stop::BUDGET_SPENT, detail: 0, steps: 0, empty: 0 };
-    while ran.steps < u64::from(budget) {
+    while ran.steps < budget {
         match machine.step() {
-            Ok(empty) => ran.empty += empty,
+            Ok(empty) => ran.empty = ran.empty.saturating_add(empty),
             Err(stop) => {
                 (ran.stop, ran.detail) = stop;
                 break;

@@ -18,7 +18,7 @@ pub fn run<'a>(
     queue: impl Into<Option<&'a mut [u8]>>,
     output: impl Into<Option<&'a mut [u8]>>,
     row: impl Into<Option<&'a mut [i64]>>,
-    budget: u32,
+    budget: u64,
 ) -> Ran {
     let ((cells, cells_len), (queue, queue_len)) = (lend(cells), lend(queue));
     let ((output, output_len), (row, row_len)) = (lend(output), lend(row));

@@ -8,7 +8,7 @@ use crate::{Drained, Raised, Ran, calls};
 pub struct Library;
 
 impl Machine for Library {
-    fn run(&mut self, lent: &mut Lent, budget: u32) -> Answer {
+    fn run(&mut self, lent: &mut Lent, budget: u64) -> Answer {
         let Lent { cells, queue, output, row } = lent;
         let ran = calls::run(&mut cells[..], &mut queue[..], &mut output[..], &mut row[..], budget);
         let Ran { refusal, stop, detail, steps, empty, .. } = ran;

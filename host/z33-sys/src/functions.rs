@@ -17,7 +17,7 @@ unsafe extern "C" {
         output_len: usize,
         row: *mut i64,
         row_len: usize,
-        budget: u32,
+        budget: u64,
     ) -> z33_ran;
 
     /// Puts bytes behind the unread ones in the queue.

@@ -28,7 +28,7 @@ pub fn run(
     queue: &mut [u8],
     output: &mut [u8],
     row: &mut [i64],
-    budget: u32,
+    budget: u64,
 ) -> Result<Ran, Refusal> {
     let ran = unsafe {
         z33_sys::z33_run(

@@ -63,7 +63,7 @@ impl Machine {
     }
 
     /// Takes steps until one does not complete, or `budget` of them have.
-    pub fn run(&mut self, budget: u32) -> Result<Ran, Refusal> {
+    pub fn run(&mut self, budget: u64) -> Result<Ran, Refusal> {
         lent::run(&mut self.cells, &mut self.queue, &mut self.output, &mut self.row, budget)
     }
 

@@ -80,7 +80,7 @@ fn each_refusal_has_its_number_and_words() {
 #[test]
 fn each_stop_has_its_number_and_words() {
     let push = one(19952, 0, 0); // push 0
-    let cases: [(&[Cell], u32, Ran, (u64, u64), &str); 8] = [
+    let cases: [(&[Cell], u64, Ran, (u64, u64), &str); 8] = [
         (&[NOP, NOP], 1, Ran { stop: Stop::BudgetSpent, steps: 1, empty: 0 }, (0, 0), "budget spent after 1 step"),
         (&[NOP, NOP, RESET], 9, Ran { stop: Stop::Reset, steps: 2, empty: 0 }, (1, 0), "reset after 2 steps"),
         // div 0,%a
@@ -164,6 +164,14 @@ fn words_from_empty_cells_are_counted() {
     m.set_register(Register::Sp, 300).unwrap();
     let ran = m.run(9).unwrap();
     assert_eq!((ran.stop.number(), ran.steps, ran.empty), (2, 1, 0));
+}
+
+#[test]
+fn a_budget_has_64_bits() {
+    for budget in [1 << 32, u64::MAX] {
+        let ran = machine(&[NOP, NOP, RESET]).run(budget).unwrap();
+        assert_eq!((ran.stop, ran.steps), (Stop::Reset, 2));
+    }
 }
 
 #[test]

@@ -12,11 +12,11 @@ output-fits-requires : tie.Need-output-fits-requires
 output-fits-requires c κs = search needs
 
 row-check-requires : tie.Need-row-check-requires
-row-check-requires c κs = (omega arith, output-fits (c .before .before .before .before .args .output .now) (sym (c .before .output-fits .ensures) ∙ c .if1 .taken))
+row-check-requires c κs = (omega arith, (output-fits (c .before .before .before .before .args .output .now) (sym (c .before .output-fits .ensures) ∙ c .if1 .taken), omega arith))
 
 number-at-requires : tie.Need-number-at-requires
 number-at-requires c κs = let a = c .before .before .before .before .before .before .before .args in
-    let f = row-accepted 4096 (length (a .output .now)) (a .row .now) (c .before .before .row-check .ensures) (c .if2 .taken) in
+    let f = row-accepted 4096 (length (a .output .now)) 10000 (a .row .now) (c .before .before .row-check .ensures) (c .if2 .taken) in
     omega (arith, f .long)
 
 accept-requires : tie.Need-accept-requires
@@ -29,13 +29,13 @@ returns : tie.Need-returns
 unfolding drainCheck
 returns c = let a = c .before .before .before .before .before .before .before .before .before .before .args in
     check-by 7 0 _ _ (rw (c .before .before .number-at .ensures) at (c .check .ensures)) (accept-by (c .before .accept .ensures))
-    ∙ row-passed 4096 (length (a .output .now)) (a .row .now) _ (passed-by (c .before .before .before .before .before .row-check .ensures) (c .before .before .before .if2 .taken))
+    ∙ row-passed 4096 (length (a .output .now)) 10000 (a .row .now) _ (passed-by (c .before .before .before .before .before .row-check .ensures) (c .before .before .before .if2 .taken))
     ∙ first-passed (outputTest (a .output .now)) _ (sym (c .before .before .before .before .before .before .before .output-fits .ensures) ∙ c .before .before .before .before .before .before .if1 .taken)
 
 returns-2 : tie.Need-returns-2
 unfolding drainCheck
 returns-2 c = let a = c .before .before .before .before .before .before .before .args in
-    c .before .before .row-check .ensures ∙ row-refused 4096 (length (a .output .now)) (a .row .now) _ (refused-by (c .before .before .row-check .ensures) (c .if2 .left))
+    c .before .before .row-check .ensures ∙ row-refused 4096 (length (a .output .now)) 10000 (a .row .now) _ (refused-by (c .before .before .row-check .ensures) (c .if2 .left))
     ∙ first-passed (outputTest (a .output .now)) _ (sym (c .before .before .before .before .output-fits .ensures) ∙ c .before .before .before .if1 .taken)
 
 returns-3 : tie.Need-returns-3

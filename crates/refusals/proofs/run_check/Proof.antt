@@ -3,7 +3,8 @@ use mathlib.Core.Path.{_∙_, sym}
 use lib.ListN.{length}
 use borrow.Author.Needs.{needs}
 use Rattle.definition.specs.Calls.{lowestDamaged, runCheck, cellsTest, queueTest, outputTest, damageTest}
-use Rattle.definition.proofs.Row.{queue-fits, output-fits}
+use Rattle.definition.specs.Memory.{cellCount}
+use Rattle.definition.proofs.Row.{cells-fit, queue-fits, output-fits}
 use Rattle.checks.proofs.Verdict.{row-passed, row-refused, passed-by, refused-by, first-passed, first-refused, check-by, accept-by}
 use Rattle.refusals.proofs.run_check.Statement.{statement}
 use Rattle.refusals.proofs.run_check.Tie as tie
@@ -19,7 +20,7 @@ output-fits-requires c κs = search needs
 
 row-check-requires : tie.Need-row-check-requires
 row-check-requires c κs = let a = c .before .before .before .before .before .before .before .before .args in
-    (queue-fits (a .queue .now) (sym (c .before .before .before .before .queue-fits .ensures) ∙ c .before .if2 .taken) .most, output-fits (a .output .now) (sym (c .before .before .before .output-fits .ensures) ∙ c .if3 .taken))
+    (queue-fits (a .queue .now) (sym (c .before .before .before .before .queue-fits .ensures) ∙ c .before .if2 .taken) .most, (output-fits (a .output .now) (sym (c .before .before .before .output-fits .ensures) ∙ c .if3 .taken), cells-fit (a .cells .now) (sym (c .before .before .before .before .before .cells-fit .ensures) ∙ c .before .before .if1 .taken) .most))
 
 accept-requires : tie.Need-accept-requires
 accept-requires c κs = search needs
@@ -31,7 +32,7 @@ returns : tie.Need-returns
 unfolding runCheck damageTest
 returns c = let a = c .before .before .before .before .before .before .before .before .before .before .before .before .before .args in
     check-by 5 (lowestDamaged 0 (a .cells .now)) _ [] (c .damage .ensures) (accept-by (c .before .accept .ensures))
-    ∙ row-passed (length (a .queue .now)) (length (a .output .now)) (a .row .now) _ (passed-by (c .before .before .before .before .row-check .ensures) (c .before .before .if4 .taken))
+    ∙ row-passed (length (a .queue .now)) (length (a .output .now)) (cellCount (a .cells .now)) (a .row .now) _ (passed-by (c .before .before .before .before .row-check .ensures) (c .before .before .if4 .taken))
     ∙ first-passed (outputTest (a .output .now)) _ (sym (c .before .before .before .before .before .before .before .before .output-fits .ensures) ∙ c .before .before .before .before .before .if3 .taken)
     ∙ first-passed (queueTest (a .queue .now)) _ (sym (c .before .before .before .before .before .before .before .before .before .queue-fits .ensures) ∙ c .before .before .before .before .before .before .if2 .taken)
     ∙ first-passed (cellsTest (a .cells .now)) _ (sym (c .before .before .before .before .before .before .before .before .before .before .cells-fit .ensures) ∙ c .before .before .before .before .before .before .before .if1 .taken)
@@ -39,7 +40,7 @@ returns c = let a = c .before .before .before .before .before .before .before .b
 returns-2 : tie.Need-returns-2
 unfolding runCheck cellsTest
 returns-2 c = let a = c .before .before .before .before .before .before .before .before .before .before .before .args in
-    c .before .before .row-check .ensures ∙ row-refused (length (a .queue .now)) (length (a .output .now)) (a .row .now) _ (refused-by (c .before .before .row-check .ensures) (c .if4 .left))
+    c .before .before .row-check .ensures ∙ row-refused (length (a .queue .now)) (length (a .output .now)) (cellCount (a .cells .now)) (a .row .now) _ (refused-by (c .before .before .row-check .ensures) (c .if4 .left))
     ∙ first-passed (outputTest (a .output .now)) _ (sym (c .before .before .before .before .before .before .output-fits .ensures) ∙ c .before .before .before .if3 .taken)
     ∙ first-passed (queueTest (a .queue .now)) _ (sym (c .before .before .before .before .before .before .before .queue-fits .ensures) ∙ c .before .before .before .before .if2 .taken)
     ∙ first-passed (cellsTest (a .cells .now)) _ (sym (c .before .before .before .before .before .before .before .before .cells-fit .ensures) ∙ c .before .before .before .before .before .if1 .taken)

@@ -22,11 +22,11 @@ returns : tie.Need-returns
 unfolding setRegisterCheck
 returns c = let k = rw (toZ-ofZ (c .before .before .before .before .before .before .fits .w)) at (c .before .before .register-fits .ensures) in
     check-by 10 0 _ _ (rw k at (c .check .ensures)) (accept-by (c .before .accept .ensures))
-    ∙ row-passed 4096 65536 (c .before .before .before .before .before .before .args .row .now) _ (passed-by (c .before .before .before .before .before .row-check .ensures) (c .before .before .before .if1 .taken))
+    ∙ row-passed 4096 65536 10000 (c .before .before .before .before .before .before .args .row .now) _ (passed-by (c .before .before .before .before .before .row-check .ensures) (c .before .before .before .if1 .taken))
 
 returns-2 : tie.Need-returns-2
 unfolding setRegisterCheck
-returns-2 c = c .before .before .row-check .ensures ∙ row-refused 4096 65536 (c .before .before .before .args .row .now) _ (refused-by (c .before .before .row-check .ensures) (c .if1 .left))
+returns-2 c = c .before .before .row-check .ensures ∙ row-refused 4096 65536 10000 (c .before .before .before .args .row .now) _ (refused-by (c .before .before .row-check .ensures) (c .if1 .left))
 
 pub set-register-check-spec : {M : Type 1} → statement M
 set-register-check-spec =

@@ -1,4 +1,8 @@
 use mathlib.Core.List.{[]}
+use Prim.Native.Nat.{_<_, _^_}
+use native.Mathlib.Omega.{arith}
+use mir.Facts.{toZ-pos}
+use mir.Syntax.{w64}
 use borrow.Author.Needs.{needs}
 use Rattle.definition.specs.Exec.{core}
 use Rattle.definition.specs.Runtime.{machine}
@@ -23,20 +27,28 @@ put-marks-requires c κs = search needs
 put-console-requires : tie.Need-put-console-requires
 put-console-requires c κs = search needs
 
+cast-put : tie.Need-cast-put
+cast-put c = search needs
+
+put-requires : tie.Need-put-requires
+put-requires c κs = search needs
+
 same-length : tie.Need-same-length
 same-length c = search needs
 
 returns : tie.Need-returns
 unfolding rowOf
 returns c =
-    let at-put-marks = c .before .before .before .before in
+    let at-put-console = c .before .before .before .before in
+    let at-put-marks = at-put-console .before .before .before in
     let at-put-numbers = at-put-marks .before .before .before in
     let at-put-cell2 = at-put-numbers .before .before .before in
     let at-put-cell = at-put-cell2 .before .before .before in
     let start = at-put-cell .before .before .before .before .before in
     let a = start .args in
-    rw (c .before .put-console .ensures, at-put-marks .put-marks .ensures, at-put-numbers .put-numbers .ensures, at-put-cell2 .put-cell2 .ensures, at-put-cell .put-cell .ensures)
-    (all-stored (rowOf (machine (core [] (a .s)) (a .cycles) (consoleOf (a .k) [] []))) (a .row .now) (start .pre .0))
+    let h : a .fence < 2 ^ 63 = omega arith in
+    rw (c .before .put .ensures, toZ-pos w64 h, at-put-console .put-console .ensures, at-put-marks .put-marks .ensures, at-put-numbers .put-numbers .ensures, at-put-cell2 .put-cell2 .ensures, at-put-cell .put-cell .ensures)
+    (all-stored (rowOf (machine (core [] (a .s)) (a .cycles) (consoleOf (a .k) [] []) (a .fence))) (a .row .now) (start .pre .0))
 
 pub write-row-spec : {M : Type 1} → statement M
 write-row-spec =
@@ -47,5 +59,7 @@ write-row-spec =
     put-numbers-requires
     put-marks-requires
     put-console-requires
+    cast-put
+    put-requires
     same-length
     returns)

@@ -16,7 +16,7 @@ write-at-requires : tie.Need-write-at-requires
 write-at-requires c κs = search needs
 
 returns : tie.Need-returns
-returns c = let a = c .before .before .args in let l = a .cells .now in c .write-at .ensures ∙ push-at l (a .s) (c .before .below .result) (a .v) (c .before .below .ensures)
+returns c = let a = c .before .before .args in let l = a .cells .now in c .write-at .ensures ∙ push-at l (a .s) (a .guard) (c .before .below .result) (a .v) (c .before .below .ensures)
 
 pub push-cell-spec : {M : Type 1} → statement M
 push-cell-spec = tie.close (tie.spec below-requires write-at-requires returns)

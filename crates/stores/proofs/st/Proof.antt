@@ -41,7 +41,7 @@ returns c =
     let at-register-word = at-if1 .before .before in
     let start = at-register-word .before in
     let a = start .args in let l = a .cells .now in let t = at-register-word .register-word .result in let n = at-address-of .address-of .result in
-    word-ok l t (register-word-is l (a .s) (regAt (a .r)) t (at-register-word .register-word .ensures l)) _ (at-if1 .if1 .taken) (address-ok l n (address-of-is l (t .s) (argOf (a .y)) n (at-address-of .address-of .ensures l)) _ (at-if2 .if2 .taken) (c .write-at .ensures ∙ ap (λ (v : Cell). write (n .value) v (core l (n .s))) (rw (back (t .value) (at-struct-told .struct-told .given .1 .1 .0 .1)) at (at-word-cell .word-cell .ensures))))
+    word-ok l t (register-word-is l (a .s) (regAt (a .r)) t (at-register-word .register-word .ensures l)) _ (at-if1 .if1 .taken) (address-ok l n (address-of-is l (t .s) (argOf (a .y)) n (at-address-of .address-of .ensures l)) _ (at-if2 .if2 .taken) (c .write-at .ensures ∙ ap (λ (v : Cell). write (a .guard) (n .value) v (core l (n .s))) (rw (back (t .value) (at-struct-told .struct-told .given .1 .1 .0 .1)) at (at-word-cell .word-cell .ensures))))
 
 fails-requires : tie.Need-fails-requires
 fails-requires c κs = search needs

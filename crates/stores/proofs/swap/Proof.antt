@@ -43,7 +43,7 @@ returns c =
     let at-cell-of = at-if1 .before .before in
     let start = at-cell-of .before in
     let a = start .args in let l = a .cells .now in let t = at-cell-of .cell-of .result in let q = at-put-reg .put-reg .result in
-    cell-ok l t (cell-of-is l (a .s) (argOf (a .x)) t (at-cell-of .cell-of .ensures)) _ (at-if1 .if1 .taken) (put-ok l q (ap (putRes l) (at-put-reg .put-reg .ensures) ∙ settled-is (t .s) l (putReg (regAt (a .r)) (t .value) (t .s))) _ (at-if2 .if2 .taken) (c .swap-back .ensures ∙ ap (λ (v : Cell). swapBack (argOf (a .x)) v (core l (q .s))) (at-get-reg .get-reg .ensures)))
+    cell-ok l t (cell-of-is l (a .s) (argOf (a .x)) t (at-cell-of .cell-of .ensures)) _ (at-if1 .if1 .taken) (put-ok l q (ap (putRes l) (at-put-reg .put-reg .ensures) ∙ settled-is (t .s) l (putReg (regAt (a .r)) (t .value) (t .s))) _ (at-if2 .if2 .taken) (c .swap-back .ensures ∙ ap (λ (v : Cell). swapBack (a .guard) (argOf (a .x)) v (core l (q .s))) (at-get-reg .get-reg .ensures)))
 
 with-none-requires : tie.Need-with-none-requires
 with-none-requires c κs = search needs

@@ -28,7 +28,7 @@ returns c =
     let at-if1 = at-put-reg .before in
     let start = at-if1 .before .before in
     let a = start .args in let l = a .cells .now in
-    ap (madeRes l) (c .with-none .ensures) ∙ none-written l (start .pre) (at-put-reg .put-reg .result) ∙ ap (putRes l) (at-put-reg .put-reg .ensures) ∙ settled-is (a .s) l _ ∙ back-reg l (a .s) (a .x) (a .v) (at-if1 .if1 .taken)
+    ap (madeRes l) (c .with-none .ensures) ∙ none-written l (start .pre) (at-put-reg .put-reg .result) ∙ ap (putRes l) (at-put-reg .put-reg .ensures) ∙ settled-is (a .s) l _ ∙ back-reg l (a .s) (a .guard) (a .x) (a .v) (at-if1 .if1 .taken)
 
 address-of-requires : tie.Need-address-of-requires
 address-of-requires c κs = search needs
@@ -43,7 +43,7 @@ returns-2 c =
     let at-if1 = at-address-of .before in
     let start = at-if1 .before .before in
     let a = start .args in let l = a .cells .now in let n = at-address-of .address-of .result in
-    address-ok l n (address-of-is l (a .s) (argOf (a .x)) n (at-address-of .address-of .ensures l)) _ (at-if2 .if2 .taken) (c .write-at .ensures) ∙ back-memory l (a .s) (a .x) (a .v) (at-if1 .if1 .left)
+    address-ok l n (address-of-is l (a .s) (argOf (a .x)) n (at-address-of .address-of .ensures l)) _ (at-if2 .if2 .taken) (c .write-at .ensures) ∙ back-memory l (a .s) (a .guard) (a .x) (a .v) (at-if1 .if1 .left)
 
 fails-requires : tie.Need-fails-requires
 fails-requires c κs = search needs
@@ -55,7 +55,7 @@ returns-3 c =
     let at-if1 = at-address-of .before in
     let start = at-if1 .before .before in
     let a = start .args in let l = a .cells .now in let n = at-address-of .address-of .result in
-    address-err l n (address-of-is l (a .s) (argOf (a .x)) n (at-address-of .address-of .ensures l)) _ (at-if2 .if2 .left) (fails-is l (start .pre) (n .s) (n .error) (c .fails .ensures)) ∙ back-memory l (a .s) (a .x) (a .v) (at-if1 .if1 .left)
+    address-err l n (address-of-is l (a .s) (argOf (a .x)) n (at-address-of .address-of .ensures l)) _ (at-if2 .if2 .left) (fails-is l (start .pre) (n .s) (n .error) (c .fails .ensures)) ∙ back-memory l (a .s) (a .guard) (a .x) (a .v) (at-if1 .if1 .left)
 
 pub swap-back-spec : {M : Type 1} → statement M
 swap-back-spec =

@@ -1,6 +1,6 @@
 use mathlib.Core.Path.{_∙_, ap}
 use Rattle.definition.specs.declared.Error.the-variants.{InvalidMemoryAccess}
-use native.Mathlib.Omega.{arith}
+use Rattle.definition.specs.Exec.{permits}
 use Rattle.stores.specs.Meaning.{madeRes, written}
 use Rattle.stores.proofs.Laws.{fails-is, write-in, write-out}
 use borrow.Author.Needs.{needs}
@@ -22,15 +22,17 @@ fails-requires : tie.Need-fails-requires
 fails-requires c κs = search needs
 
 returns : tie.Need-returns
+unfolding permits
 returns c =
     let at-accept = c .before in
     let start = at-accept .before .before in
-    let a = start .args in let l = a .cells .now in ap (madeRes l) (c .with-cell .ensures ∙ ap (written (a .n) (a .v)) (at-accept .accept .ensures)) ∙ write-in l (a .s) (a .n) (a .v) (omega arith)
+    let a = start .args in let l = a .cells .now in ap (madeRes l) (c .with-cell .ensures ∙ ap (written (a .n) (a .v)) (at-accept .accept .ensures)) ∙ write-in l (a .s) (a .guard) (a .n) (a .v) (at-accept .before .if1 .taken)
 
 returns-2 : tie.Need-returns-2
+unfolding permits
 returns-2 c =
     let start = c .before .before in
-    let a = start .args in let l = a .cells .now in fails-is l (start .pre) (a .s) InvalidMemoryAccess (c .fails .ensures) ∙ write-out l (a .s) (a .n) (a .v) (omega arith)
+    let a = start .args in let l = a .cells .now in fails-is l (start .pre) (a .s) InvalidMemoryAccess (c .fails .ensures) ∙ write-out l (a .s) (a .guard) (a .n) (a .v) (c .before .if1 .left)
 
 pub write-at-spec : {M : Type 1} → statement M
 write-at-spec =

@@ -16,8 +16,8 @@ from-then1 c = c .before .before .before .before
 abbrev from-write : tie.After-write → tie.Start
 from-write c = c .before .before .before .before .before .before .before .before
 
-add-t16 : tie.Need-add-t16
-add-t16 c =
+add-t17 : tie.Need-add-t17
+add-t17 c =
     let then1 = c .before .before in
     let start = from-write (from-then1 then1) in
     let h = start .pre .1 .1 (then1 .if1 .taken) in omega arith
@@ -34,7 +34,7 @@ returns c =
     let at-write = from-then1 then1 in
     let start = from-write at-write in
     λ q. let a = start .args in let w = at-write .write .ensures in
-    commits-entered (a .cells .now) q (a .output .now) (a .a) (a .enters) (w .0) (w .1) (then1 .if1 .taken) (c .before .entered-registers .ensures)
+    commits-entered (a .cells .now) q (a .output .now) (a .fence) (a .a) (a .enters) (w .0) (w .1) (then1 .if1 .taken) (c .before .entered-registers .ensures)
 
 same-length-3 : tie.Need-same-length-3
 same-length-3 c = search needs
@@ -47,7 +47,7 @@ returns-2 c =
     let at-write = c .before .before .before .before in
     let start = from-write at-write in
     λ q. let a = start .args in let w = at-write .write .ensures in
-    commits (a .cells .now) q (a .output .now) (a .a) (a .enters) (w .0) (w .1) (c .if1 .left)
+    commits (a .cells .now) q (a .output .now) (a .fence) (a .a) (a .enters) (w .0) (w .1) (c .if1 .left)
 
 pub commit-spec : {M : Type 1} → statement M
 commit-spec =
@@ -55,7 +55,7 @@ commit-spec =
     (tie.spec
     write-requires
     entered-registers-requires
-    add-t16
+    add-t17
     same-length
     same-length-2
     returns

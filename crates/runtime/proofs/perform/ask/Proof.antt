@@ -11,7 +11,7 @@ input-requires : tie.Need-input-requires
 input-requires c κs = ((c .before .before .pre .0 .0, c .before .before .pre .0 .1 .0), c .if1 .taken)
 
 returns : tie.Need-returns
-returns c = c .input .ensures (c .before .before .before .args .size)
+returns c = λ g. c .input .ensures g (c .before .before .before .args .size)
 
 output-requires : tie.Need-output-requires
 output-requires c κs = ((c .before .before .pre .0 .0, c .before .before .pre .0 .1 .1), asks-out _ (c .before .before .pre .1) (c .if1 .left))

@@ -56,8 +56,8 @@ returns c =
     let then1 = at-read-port .before in
     let at-in-request = then1 .before .before in
     let start = from-in-request at-in-request in
-    λ size. let a = start .args in let l = a .cells .now in let q = at-in-request .in-request .result in
-    let e = ap (λ (b : Bool). result (reads (q .port) (regAt (a .i .y .reg))) b (q .error) (core l (q .s))) (sym (then1 .if1 .taken)) ∙ at-in-request .in-request .ensures l ∙ is-in l (a .s) (a .i) (start .pre .1) in
+    λ g size. let a = start .args in let l = a .cells .now in let q = at-in-request .in-request .result in
+    let e = ap (λ (b : Bool). result (reads (q .port) (regAt (a .i .y .reg))) b (q .error) (core l (q .s))) (sym (then1 .if1 .taken)) ∙ at-in-request .in-request .ensures l ∙ is-in g l (a .s) (a .i) (start .pre .1) in
     let v = at-read-port .read-port .result in
     let g = ap (putRes l) (at-put-reg .put-reg .ensures) ∙ settled-is (q .s) l (putReg (regAt (a .i .y .reg)) (at-address-cell .address-cell .result) (q .s)) in
     rw (c .done .ensures, c .before .with-none .ensures) (serves-input l (a .queue .now) size (a .k) (a .i .cost) _ (start .pre .0 .0) (q .s) (q .port) (v .value) (regAt (a .i .y .reg)) (v .k) (at-put-reg .put-reg .result) e (at-read-port .read-port .ensures) (rw (at-address-cell .address-cell .ensures) at g))
@@ -77,8 +77,8 @@ returns-2 c =
     let else1 = at-refuse .before in
     let at-in-request = else1 .before .before in
     let start = from-in-request at-in-request in
-    λ size. let a = start .args in let l = a .cells .now in let q = at-in-request .in-request .result in
-    let e = ap (λ (b : Bool). result (reads (q .port) (regAt (a .i .y .reg))) b (q .error) (core l (q .s))) (sym (else1 .if1 .left)) ∙ at-in-request .in-request .ensures l ∙ is-in l (a .s) (a .i) (start .pre .1) in
+    λ g size. let a = start .args in let l = a .cells .now in let q = at-in-request .in-request .result in
+    let e = ap (λ (b : Bool). result (reads (q .port) (regAt (a .i .y .reg))) b (q .error) (core l (q .s))) (sym (else1 .if1 .left)) ∙ at-in-request .in-request .ensures l ∙ is-in g l (a .s) (a .i) (start .pre .1) in
     rw (c .done2 .ensures, c .before .with-none2 .ensures) (serves-unwritten l (a .queue .now) size (a .k) (a .i .cost) _ (start .pre .0 .0) (at-refuse .refuse .result) (ap (answer nothing l) (at-refuse .refuse .ensures) ∙ e))
 
 pub input-spec : {M : Type 1} → statement M

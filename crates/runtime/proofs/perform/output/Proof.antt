@@ -46,8 +46,8 @@ returns c =
     let then1 = at-output-full .before .before .before in
     let at-out-request = from-then1 then1 in
     let start = from-out-request at-out-request in
-    let a = start .args in let l = a .cells .now in let q = at-out-request .out-request .result in
-    let e = ap (λ (b : Bool). result (writes (q .port) (q .w)) b (q .error) (core l (q .s))) (sym (then1 .if1 .taken)) ∙ at-out-request .out-request .ensures ∙ is-out l (a .s) (a .i) (start .pre .1) in
+    λ g. let a = start .args in let l = a .cells .now in let q = at-out-request .out-request .result in
+    let e = ap (λ (b : Bool). result (writes (q .port) (q .w)) b (q .error) (core l (q .s))) (sym (then1 .if1 .taken)) ∙ at-out-request .out-request .ensures ∙ is-out g l (a .s) (a .i) (start .pre .1) in
     serves-full l (a .queue .now) (a .size) (a .k) (a .i .cost) _ (q .s) (q .port) (q .w) (c .done .result .e) e (λ y o h. sym (c .before .if2 .taken) ∙ at-output-full .output-full .ensures y o h)
 
 abbrev from-struct-told : tie.After-struct-told → tie.Else2
@@ -68,8 +68,8 @@ returns-2 c =
     let then1 = at-accept .before in
     let at-out-request = from-then1 then1 in
     let start = from-out-request at-out-request in
-    let a = start .args in let l = a .cells .now in let q = at-out-request .out-request .result in
-    let e = ap (λ (b : Bool). result (writes (q .port) (q .w)) b (q .error) (core l (q .s))) (sym (then1 .if1 .taken)) ∙ at-out-request .out-request .ensures ∙ is-out l (a .s) (a .i) (start .pre .1) in
+    λ g. let a = start .args in let l = a .cells .now in let q = at-out-request .out-request .result in
+    let e = ap (λ (b : Bool). result (writes (q .port) (q .w)) b (q .error) (core l (q .s))) (sym (then1 .if1 .taken)) ∙ at-out-request .out-request .ensures ∙ is-out g l (a .s) (a .i) (start .pre .1) in
     rw (at-with-none .with-none .ensures, at-accept .accept .ensures) (serves-sent l (a .queue .now) (a .size) (a .k) (a .i .cost) _ (start .pre .0 .0) (q .s) (q .port) (q .w) (c .before .write-port .result) _ e (λ y o h. sym (else2 .if2 .left) ∙ at-output-full .output-full .ensures y o h) (rw (back (q .w) (at-struct-told .struct-told .given .1 .1 .1 .0 .1)) at (c .before .write-port .ensures)))
 
 refuse-requires : tie.Need-refuse-requires
@@ -87,8 +87,8 @@ returns-3 c =
     let else1 = at-refuse .before in
     let at-out-request = else1 .before .before in
     let start = from-out-request at-out-request in
-    let a = start .args in let l = a .cells .now in let q = at-out-request .out-request .result in
-    let e = ap (λ (b : Bool). result (writes (q .port) (q .w)) b (q .error) (core l (q .s))) (sym (else1 .if1 .left)) ∙ at-out-request .out-request .ensures ∙ is-out l (a .s) (a .i) (start .pre .1) in
+    λ g. let a = start .args in let l = a .cells .now in let q = at-out-request .out-request .result in
+    let e = ap (λ (b : Bool). result (writes (q .port) (q .w)) b (q .error) (core l (q .s))) (sym (else1 .if1 .left)) ∙ at-out-request .out-request .ensures ∙ is-out g l (a .s) (a .i) (start .pre .1) in
     rw (c .done2 .ensures, c .before .with-none2 .ensures) (serves-unwritten l (a .queue .now) (a .size) (a .k) (a .i .cost) _ (start .pre .0 .0) (at-refuse .refuse .result) (ap (answer nothing l) (at-refuse .refuse .ensures) ∙ e))
 
 pub output-spec : {M : Type 1} → statement M

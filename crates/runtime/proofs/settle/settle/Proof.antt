@@ -20,7 +20,7 @@ returns : tie.Need-returns
 returns c =
     let at-decide = c .before .before in
     let start = from-decide at-decide in
-    λ q. let a = start .args in let d = at-decide .decide in rw (c .leaves .ensures) (settles-full (a .cells .now) q (a .output .now) (a .m) (a .a) (d .result) (d .ensures) (c .before .if1 .taken))
+    λ q. let a = start .args in let d = at-decide .decide in rw (c .leaves .ensures) (settles-full (a .cells .now) q (a .output .now) (a .m) (a .fence) (a .a) (d .result) (d .ensures) (c .before .if1 .taken))
 
 commit-requires : tie.Need-commit-requires
 commit-requires c κs =
@@ -43,7 +43,7 @@ returns-2 c =
     let else1 = at-commit .before .before .before in
     let at-decide = else1 .before in
     let start = from-decide at-decide in
-    λ q. let a = start .args in let d = at-decide .decide in rw (c .leaves2 .ensures) (settles (a .cells .now) q (a .output .now) (a .m) (a .a) (d .result) (d .ensures) (else1 .if1 .left) _ (at-commit .commit .ensures q))
+    λ q. let a = start .args in let d = at-decide .decide in rw (c .leaves2 .ensures) (settles (a .cells .now) q (a .output .now) (a .m) (a .fence) (a .a) (d .result) (d .ensures) (else1 .if1 .left) _ (at-commit .commit .ensures q))
 
 pub settle-spec : {M : Type 1} → statement M
 settle-spec =

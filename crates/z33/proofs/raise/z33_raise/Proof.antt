@@ -31,7 +31,7 @@ state-requires c κs =
     let at-raise-check = from-then1 (c .before) in
     let start = from-raise-check at-raise-check in
     let a = start .args in let t = passed-by (at-raise-check .raise-check .ensures) (c .before .if1 .taken) in let p = raise-passed (a .cells .now) (a .row .now) (a .code) t in
-    let r = p .row-fits in (r .long, (r .pc, r .sp))
+    let r = p .row-fits in let few = p .cells-fit .most in let f = r .fence .1 in (r .long, (r .pc, (r .sp, (r .fence .0, omega arith))))
 
 abbrev from-state : tie.After-state → tie.Then1
 from-state c = c .before .before

@@ -36,7 +36,7 @@ state-requires : tie.Need-state-requires
 state-requires c κs =
     let at-run-check = from-then1 (c .before) in
     let start = from-run-check at-run-check in
-    let a = start .args in let p = run-passed (lent (a .cells .now) (a .queue .now) (a .output .now) (a .row .now)) (passed-by (at-run-check .run-check .ensures) (c .before .if1 .taken)) .row-fits in (p .long, (p .pc, p .sp))
+    let a = start .args in let p = run-passed (lent (a .cells .now) (a .queue .now) (a .output .now) (a .row .now)) (passed-by (at-run-check .run-check .ensures) (c .before .if1 .taken)) in let r = p .row-fits in let few = p .cells-fit .most in let f = r .fence .1 in (r .long, (r .pc, (r .sp, (r .fence .0, omega arith))))
 
 abbrev from-state : tie.After-state → tie.Then1
 from-state c = c .before .before
