@@ -324,8 +324,8 @@ fn stops() -> Vec<Directed> {
 fn runs() -> Vec<Directed> {
     let jump = instruction(JMP, imm(10), NONE);
     let rti = instruction(RTI, NONE, NONE);
-    let preempted = |name: &str, budget: u32| {
-        timed(name, jump, [5, 5, 0]).cell(200, rti).row(at::SR, I).run(budget, 0, 0, budget.into())
+    let preempted = |name: &str, budget: u64| {
+        timed(name, jump, [5, 5, 0]).cell(200, rti).row(at::SR, I).run(budget, 0, 0, budget)
     };
     vec![
         then(preempted("a loop, before the timer expires", 4).then_at(10, 4), [5, 1, 0]),
