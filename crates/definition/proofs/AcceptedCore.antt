@@ -6,6 +6,7 @@ use Prim.Native.Nat.{ℕ, _*_, _<_}
 use native.Mathlib.Omega.{arith}
 use native.Mathlib.Decide.{ℕ-discrete}
 use lib.IntN.{ℤ}
+use lib.ListN.{length}
 use Rattle.definition.specs.declared.Cell.{Cell}
 use Rattle.definition.specs.declared.Registers.{Registers}
 use Rattle.definition.specs.Memory.{word, cellCount, cellAt, putCell}
@@ -105,6 +106,36 @@ user-laws g f =
       to-sr = λ l. absurd l;
       to-empties = λ c u n. record { accepted = any-laws g f .to-empties c (u .accepted) n; clear = u .clear };
       to-flag = λ c u k h on. record { accepted = any-laws g f .to-flag c (u .accepted) k h on; clear = put-other k on (c .regs .sr) (omega arith) 9 (λ e. omega arith) ∙ u .clear };
+    }
+
+-- And the cells below the fence f are those of l.
+pub record Kernel (f : ℕ) (l : List ℤ) (c : Core) : Type 0 where
+  pub user : User f c
+  pub size : length (c .cells) ≡ length l
+  pub same : (n : ℕ) → n < f → cellAt (c .cells) n ≡ cellAt l n
+
+pub kernel-laws : (f : ℕ) (l : List ℤ) → Laws f (Kernel f l) Sound ⊥ Silent
+kernel-laws f l =
+    let u = user-laws f f in
+    record {
+      loud = λ c k h. u .loud c (k .user) h;
+      quietQ = refl;
+      loudQ = λ l q. absurd l;
+      wordS = word-sound;
+      aSd = λ c k. u .aSd c (k .user);
+      bSd = λ c k. u .bSd c (k .user);
+      cellSd = λ c k. u .cellSd c (k .user);
+      pcA = λ c k. u .pcA c (k .user);
+      spA = λ c k. u .spA c (k .user);
+      few = λ c k. u .few c (k .user);
+      put = λ c k n h g v s. record { user = u .put c (k .user) n h g v s; size = length-put (c .cells) n v ∙ k .size; same = λ i b. cell-other (c .cells) n i v (λ (e : i ≡ n). omega arith) ∙ k .same i b };
+      to-a = λ c k v s. record { user = u .to-a c (k .user) v s; size = k .size; same = k .same };
+      to-b = λ c k v s. record { user = u .to-b c (k .user) v s; size = k .size; same = k .same };
+      to-pc = λ c k n h. record { user = u .to-pc c (k .user) n h; size = k .size; same = k .same };
+      to-sp = λ c k n h. record { user = u .to-sp c (k .user) n h; size = k .size; same = k .same };
+      to-sr = λ l. absurd l;
+      to-empties = λ c k n. record { user = u .to-empties c (k .user) n; size = k .size; same = k .same };
+      to-flag = λ c k n h on. record { user = u .to-flag c (k .user) n h on; size = k .size; same = k .same };
     }
 
 -- a machine in user mode

@@ -10,7 +10,10 @@ pub mod AcceptedCore
 pub mod Step
 pub mod UserStep
 pub mod UserRun
+pub mod Writes
+pub mod Held
 pub mod Row
 pub mod Accepted
 pub mod Refused
 pub mod UserMode
+pub mod Fence

@@ -19,7 +19,7 @@ pub total-plain : (t u : ℕ) → t + u ≤ TOTAL-MOST → total t u ≡ t + u
 unfolding total
 total-plain t u h = ap (λ (b : Bool). cond b (t + u) TOTAL-MOST) (le-leb (t + u) TOTAL-MOST h)
 
-gt-leb : (a b : ℕ) → b < a → leb a b ≡ false
+pub gt-leb : (a b : ℕ) → b < a → leb a b ≡ false
 gt-leb a b h = go (leb a b) refl
   where
     go : (c : Bool) → leb a b ≡ c → c ≡ false

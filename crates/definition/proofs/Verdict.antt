@@ -21,6 +21,10 @@ pub and-both : (a b : Bool) → a ≡ true → b ≡ true → a && b ≡ true
 and-both true b h k = k
 and-both false b h k = h
 
+pub and-second : (a b : Bool) → b ≡ false → a && b ≡ false
+and-second true b h = h
+and-second false b h = refl
+
 -- ---- tests, all passed
 
 abbrev pub Passes : List Test → Type 0

@@ -7,6 +7,7 @@ pub mod Registers
 pub mod Arguments
 pub mod Encoding
 pub mod Io
+pub mod Timer
 pub mod Exec
 pub mod Instructions
 pub mod Runtime
@@ -14,3 +15,4 @@ pub mod Calls
 pub mod Course
 pub mod UserMode
 pub mod Accepted
+pub mod Fence
