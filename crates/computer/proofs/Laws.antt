@@ -16,7 +16,7 @@ use Rattle.definition.specs.Memory.{cellCount}
 use Rattle.definition.specs.Registers.{refused, interruptEnable}
 use Rattle.definition.specs.Encoding.{Instruction}
 use Rattle.definition.specs.Exec.{Core, core, Res, ok, err, andThen, return}
-use Rattle.definition.specs.Instructions.{Request, execute}
+use Rattle.definition.specs.Instructions.{Request, nothing, execute}
 use Rattle.definition.specs.Runtime as M
 use Rattle.definition.specs.Runtime.{Machine, with-core, with-cycles, with-mark, uncounted, Executed, Run, runs}
 use Rattle.definition.specs.Accepted.{AcceptedMachine}
@@ -26,7 +26,7 @@ use Rattle.definition.proofs.Accepted.{OutcomeHas, Stepped, step-accepted, unco
 use Rattle.memory.proofs.Laws.{over-none}
 use Rattle.registers.specs.Meaning.{result, settled}
 use Rattle.stores.specs.declared.Made.{Made}
-use Rattle.stores.specs.Meaning.{planned, coreOf, unwritten}
+use Rattle.stores.specs.Meaning.{planned, coreOf, made, unwritten}
 use Rattle.encoding.specs.Meaning.{instrOf}
 use Rattle.console.specs.declared.ConsoleState.{ConsoleState}
 use Rattle.runtime.specs.declared.State.{State}
@@ -35,7 +35,7 @@ use Rattle.runtime.specs.declared.perform.Served.{Served}
 use Rattle.runtime.specs.declared.arrive.Performed.{Performed}
 use Rattle.runtime.specs.declared.arrive.Arrival.{Arrival}
 use Rattle.runtime.specs.Meaning.{machineAt, guardOf, effectsAt, unsent, turnOf, Fetches, performedRes, concluded, done, attempted, executedAt, servedTurn, Serves, Concludes, outcomeAt}
-use Rattle.runtime.proofs.Served.{serves-unwritten}
+use Rattle.runtime.proofs.Served.{serves-made, serves-unwritten}
 use Rattle.computer.specs.Meaning.{NEAR, quiet}
 
 -- ---- fetch and execute
@@ -68,6 +68,11 @@ module _ (g : ℕ) (l : List ℤ) (q : List ℕ) (size : ℕ) (k : ConsoleState)
   pub served-none : cellCount l ≤ 10000 → f .ok ≡ false → Serves l q size k (f .i .cost) (requested g l f) (done (unwritten (settled (f .s) (refused (f .error)))) k)
   served-none few h =
       rw h (serves-unwritten l q size k (f .i .cost) (err (f .error) (core l (f .s))) few (settled (f .s) (refused (f .error))) refl)
+
+-- what an instruction made under the step's guard is what is served
+pub served-made : (l : List ℤ) (q : List ℕ) (size : ℕ) (m : State) (f : Fetched) → f .ok ≡ true → {g : ℕ} → g ≡ guardOf m → (d : Made) → made nothing l d ≡ executedAt g l (f .s) (f .i) → Serves l q size (m .k) (f .i .cost) (requested (guardOf m) l f) (done d (m .k))
+served-made l q size m f h e d v =
+    served-ok (guardOf m) l q size (m .k) f h _ (serves-made l q size (m .k) (f .i .cost) _ d (v ∙ ap (λ (n : ℕ). executedAt n l (f .s) (f .i)) e))
 
 -- ---- the step
 

@@ -25,10 +25,10 @@ use Rattle.lines.specs.Grammar as G
 use Rattle.lines.proofs.Complete.{startOf}
 use Rattle.image_run.specs.Image.{imageRow, imageRun}
 
--- The machine that an image starts: a and b empty, no cycle, nothing on the console.
+-- The machine that an image starts: a and b empty, no cycle, nothing on the console, no fence.
 abbrev pub startMachine : List ℤ → ℕ → ℕ → ℤ → Machine
 startMachine cells pc sp sr =
-    machine (core cells (record { a = empty; b = empty; pc = pc; sp = sp; sr = sr; empties = 0 })) 0 (record { marks = I.marked false false false; queue = replicate 256 0; start = 0; count = 0; output = replicate 4096 0; written = 0 })
+    machine (core cells (record { a = empty; b = empty; pc = pc; sp = sp; sr = sr; empties = 0 })) 0 (record { marks = I.marked false false false; queue = replicate 256 0; start = 0; count = 0; output = replicate 4096 0; written = 0 }) 0
 
 empty-sound : Sound empty
 unfolding sound soundAt
@@ -40,13 +40,13 @@ module _ (k : ℕ) (low : 256 ≤ k) (high : k ≤ 10000) (s : Registers) (pcA :
   empty-at n h =
       cell-path (getD-replicate (3 * k) (3 * n) (pos 0) (pos 0) (omega arith)) (getD-replicate (3 * k) (3 * n + 1) (pos 0) (pos 0) (omega arith)) (getD-replicate (3 * k) (3 * n + 2) (pos 0) (pos 0) (omega arith))
 
-  empty-core : AcceptedCore (core (replicate (3 * k) (pos 0)) s)
+  empty-core : AcceptedCore 0 (core (replicate (3 * k) (pos 0)) s)
   empty-core =
       let e = length-replicate (3 * k) (pos 0) in
-      record { three = omega arith; low = omega arith; high = omega arith; pcA = pcA; spA = spA; aS = aS; bS = bS; cellsS = λ n h. ap sound (empty-at n (omega arith)) ∙ empty-sound }
+      record { fenced = omega arith; three = omega arith; low = omega arith; high = omega arith; pcA = pcA; spA = spA; aS = aS; bS = bS; cellsS = λ n h. ap sound (empty-at n (omega arith)) ∙ empty-sound }
 
 -- the lines of cells keep acceptance
-lines-accepted : {k : ℕ} {t : List ℕ} {l m : List ℤ} (s : Registers) → CellLines k t l m → AcceptedCore (core l s) → cellCount l ≡ 2048 → AcceptedCore (core m s) × (cellCount m ≡ 2048)
+lines-accepted : {k : ℕ} {t : List ℕ} {l m : List ℤ} (s : Registers) → CellLines k t l m → AcceptedCore 0 (core l s) → cellCount l ≡ 2048 → AcceptedCore 0 (core m s) × (cellCount m ≡ 2048)
 lines-accepted s G.none a e = (a, e)
 lines-accepted s (G.more {m = m} {n} cs (G.cellLine ra rb rc rd below good)) a e =
     let b = lines-accepted s cs a e in

@@ -6,5 +6,5 @@ pub mod place;
 pub mod reader;
 pub mod same;
 
-// "the row's 16 numbers"
-pub const ROW: usize = 16;
+// "the row's 17 numbers"
+pub const ROW: usize = definition::places::ROW;

@@ -8,6 +8,7 @@ use lib.ListN.{length, take, drop, replicate}
 use lib.Signed.{ltZ}
 use Rattle.definition.specs.declared.Address.{Address}
 use Rattle.definition.specs.declared.Address.the-variants as A
+use Rattle.definition.specs.Constants.{ROW}
 use Rattle.definition.specs.Word.{bits, addressOf}
 use Rattle.definition.specs.declared.Done.{Done}
 use Rattle.definition.specs.declared.Drained.{Drained}
@@ -134,7 +135,7 @@ callLine k l bytes w =
     cond (eqb k 13) (calling (up .0) (lent (up .1 .0) (m .queue) (m .output) (up .1 .1)) b u)
     (calling (reg .0) (lent (m .cells) (m .queue) (m .output) (reg .1)) b u))))
 
--- "opens a case: all cells empty, all bytes 0, the row's 16 numbers 0"
+-- "opens a case: all cells empty, all bytes 0, the row's 17 numbers 0"
 abbrev pub emptied : Lent → Lent
 emptied m =
     lent (replicate (length (m .cells)) (pos 0)) (replicate (length (m .queue)) 0) (replicate (length (m .output)) 0) (replicate (length (m .row)) (pos 0))
@@ -202,7 +203,7 @@ unfoldable pub byteTaken : Reading → ℕ → Reading
 byteTaken r b = cond (fails (r .replay .state .fault)) r (onFed (r .replay) (fed (r .reader) b))
 
 abbrev pub noMachine : Lent
-noMachine = lent (replicate 30000 (pos 0)) (replicate 256 0) (replicate 4096 0) (replicate 16 (pos 0))
+noMachine = lent (replicate 30000 (pos 0)) (replicate 256 0) (replicate 4096 0) (replicate ROW (pos 0))
 
 abbrev pub opening : Reading
 opening = reading noLine (replay started noMachine noMachine (replicate 8 0) (replicate 128 0) (replicate 128 0))

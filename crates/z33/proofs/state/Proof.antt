@@ -20,8 +20,8 @@ console-state-requires c κs = search needs
 number-at-requires-2 : tie.Need-number-at-requires-2
 number-at-requires-2 c κs = search needs
 
-cast-t7 : tie.Need-cast-t7
-cast-t7 c = search needs
+cast-t6 : tie.Need-cast-t6
+cast-t6 c = search needs
 
 returns : tie.Need-returns
 returns c =
@@ -32,4 +32,4 @@ returns c =
 
 pub state-spec : {M : Type 1} → statement M
 state-spec =
-    tie.close (tie.spec registers-requires number-at-requires console-state-requires number-at-requires-2 cast-t7 returns)
+    tie.close (tie.spec registers-requires number-at-requires console-state-requires number-at-requires-2 cast-t6 returns)
