@@ -95,7 +95,7 @@ pub fn put_cells(out: &mut [u8], at: usize, row: &[i64]) -> usize
 {
     let i = put_line(out, at, b"a", &row[places::A..places::B]);
     let i = put_line(out, i, b"b", &row[places::B..places::PC]);
-    put_line(out, i, b"out", &row[places::WRITTEN..places::ROW])
+    put_line(out, i, b"out", &row[places::WRITTEN..places::FENCE])
 }
 
 // The eight lines.
