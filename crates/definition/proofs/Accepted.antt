@@ -4,7 +4,7 @@ use mathlib.Core.Logic.{_≢_}
 use mathlib.Core.Bool.{Bool, true, false, cond, _&&_}
 use Prim.Native.Nat.{ℕ, zero, suc, _+_, _-_, _<_, _≤_}
 use native.Mathlib.Omega.{arith}
-use lib.IntN.{ℤ, pos, negsuc}
+use lib.IntN.{ℤ, pos}
 use lib.ListN.{length, getD, length-set}
 use lib.Dec.{ltb, leb, eqb}
 use borrow.Author.Tests.{ltb-true, ltb-false, leb-false}
@@ -19,7 +19,7 @@ use Rattle.definition.specs.Exception.{stop, ending, HARDWARE-INTERRUPT,
 use Rattle.definition.specs.Memory.{word}
 use Rattle.definition.specs.Registers.{interruptEnable}
 use Rattle.definition.specs.Io.{Console, with-marks, inputReady, status, readStatus, writeControl, around, readData, readPort, writeData, writePort, outputFull}
-use Rattle.definition.specs.Timer.{timed, with-timer-mark, intervalOf, setTimer, tick, tickEntry, readTimer}
+use Rattle.definition.specs.Timer.{with-timer-mark, setTimer, readTimer}
 use Rattle.definition.specs.Exec.{Core, Res, ok, err}
 use Rattle.definition.specs.Instructions.{Request, nothing, reads, writes, setRegister}
 use Rattle.definition.specs.Runtime.{Machine, with-core, with-cycles, with-console, with-timer, with-mark, executed, Executed, attempt, Turn, completes, enters, stops, ends, poll, conclude, serve, afterAttempt, guard, turn, Outcome, completed, stopped, hasHandler, entered, recover, elapsed, elapses, settle, reached, limit, step, Run, runs, uncounted, later, goOn, run}
@@ -29,6 +29,7 @@ use Rattle.definition.specs.Accepted.{Sound, AcceptedCore, ConsoleIn, Ti
 -- Not cited: the table is proved first, so that a wrong rule is refused at a row that shows it.
 use Rattle.definition.proofs.Course.{course}
 use Rattle.definition.proofs.Total.{total-most, total-zero, total-assoc}
+use Rattle.definition.proofs.Ticks.{tick-in, entry-in, set-in}
 use Rattle.definition.proofs.Keeps.{Good, k-set, attempt-keeps}
 use Rattle.definition.proofs.AcceptedCore.{any-laws, word-sound}
 use Rattle.definition.proofs.UserStep.{entered-accepted}
@@ -78,38 +79,6 @@ write-in p w k h e = go (eqb p 110) (eqb p 111) refl
         let less : k .written < length (k .output) = leb-false _ _ room in
         record { some = h .some; few = h .few; small = simp length-set (h .small); start-in = h .start-in; count-in = h .count-in; written-in = simp length-set less }
     go false false q = h
-
--- ---- the timer
-
-tick-in : (n : ℕ) (t : Timer) → TimerIn t → TimerIn (tick n t)
-unfolding tick
-tick-in n t h = go (ltb 0 (t .interval)) (ltb n (t .remaining))
-  where
-    r : t .remaining ≤ t .interval
-    r = h .remaining-in
-
-    go : (b d : Bool) → TimerIn (cond b (cond d (timed (t .interval) (t .remaining - n) (t .mark)) (timed (t .interval) (t .interval) true)) t)
-    go true true = record { interval-in = h .interval-in; remaining-in = let l = r in omega arith }
-    go true false = record { interval-in = h .interval-in; remaining-in = omega arith }
-    go false d = h
-
-entry-in : (k : ℕ) (t : Timer) → TimerIn t → TimerIn (tickEntry k t)
-unfolding tickEntry
-entry-in zero t h = h
-entry-in (suc k) t h = tick-in 1 t h
-
-pub interval-below : (w : ℤ) → intervalOf w < CYCLES-END
-unfolding intervalOf
-interval-below (pos n) = go (ltb n CYCLES-END) refl
-  where
-    go : (b : Bool) → ltb n CYCLES-END ≡ b → cond b n 0 < CYCLES-END
-    go true e = ltb-true n CYCLES-END e
-    go false e = omega arith
-interval-below (negsuc n) = omega arith
-
-set-in : (w : ℤ) (t : Timer) → TimerIn (setTimer w t)
-unfolding setTimer
-set-in w t = record { interval-in = interval-below w; remaining-in = omega arith }
 
 -- ---- a step
 

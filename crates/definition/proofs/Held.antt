@@ -3,21 +3,21 @@ use mathlib.Core.Path.{_≡_, refl, sym, ap, _∙_, subst}
 use mathlib.Core.Logic.{_≢_}
 use mathlib.Core.Bool.{Bool, true, false, cond, true≢false, _&&_}
 use mathlib.Core.List.{List}
-use Prim.Native.Nat.{ℕ, zero, suc, _-_, _<_}
+use Prim.Native.Nat.{ℕ, zero, suc, _<_}
 use native.Mathlib.Omega.{arith}
 use lib.IntN.{ℤ}
 use lib.ListN.{length}
 use lib.Dec.{ltb}
-use Rattle.definition.specs.declared.Timer.{Timer}
 use Rattle.definition.specs.Constants.{CYCLES-END}
 use Rattle.definition.specs.Exception.{Ending, exception, stop, ending, HARDWARE-INTERRUPT, NO-HANDLER, CYCLES-FULL}
 use Rattle.definition.specs.Memory.{cellAt}
-use Rattle.definition.specs.Timer.{timed, with-timer-mark, tick, tickEntry}
+use Rattle.definition.specs.Timer.{with-timer-mark}
 use Rattle.definition.specs.Registers.{supervisor, interruptEnable}
 use Rattle.definition.specs.Exec.{Core, Res, ok, err}
 use Rattle.definition.specs.Runtime.{Machine, with-core, with-timer, with-mark, executed, Executed, attempt, Turn, completes, enters, stops, ends, poll, afterAttempt, guard, turn, Outcome, completed, stopped, hasHandler, saved, enteredRegisters, enteredCore, entered, recover, elapsed, elapses, settle, reached, limit, step, uncounted, later, goOn, run}
 use Rattle.definition.specs.Accepted.{Sound}
 use Rattle.definition.proofs.Cells.{length-put, cell-other}
+use Rattle.definition.proofs.Ticks.{tick-interval, entry-interval}
 use Rattle.definition.proofs.Keeps.{Good, attempt-keeps}
 use Rattle.definition.proofs.AcceptedCore.{InUser, Silent, Kernel, user-laws, kernel-laws}
 use Rattle.definition.proofs.UserStep.{ticked, serve-nothing, Entered, Ends, stays, entry, OutcomeEnds, step-ends, entered-supervisor, entry-sets}
@@ -73,20 +73,6 @@ poll-held m w a = go (interruptEnable (w .core .regs) && w .console .marks .pend
     go true t = record { fence = a .fence; interval = a .interval; core = a .core }
     go false true = record { fence = a .fence; interval = a .interval; core = a .core }
     go false false = a
-
-pub tick-interval : (n : ℕ) (t : Timer) → tick n t .interval ≡ t .interval
-unfolding tick
-tick-interval n t = go (ltb 0 (t .interval)) (ltb n (t .remaining))
-  where
-    go : (b d : Bool) → (cond b (cond d (timed (t .interval) (t .remaining - n) (t .mark)) (timed (t .interval) (t .interval) true)) t) .interval ≡ t .interval
-    go true true = refl
-    go true false = refl
-    go false d = refl
-
-pub entry-interval : (k : ℕ) (t : Timer) → tickEntry k t .interval ≡ t .interval
-unfolding tickEntry
-entry-interval zero t = refl
-entry-interval (suc k) t = tick-interval 1 t
 
 abbrev GoodKernel : Machine → Res Executed → Type 0
 GoodKernel m r = Good (Kernel (m .fence) (m .core .cells)) (λ (x : Executed). Silent (x .request)) r

@@ -12,7 +12,7 @@ use Rattle.definition.specs.Constants.{ROW, ROW-FENCE, ROW-A, ROW-B, ROW
 use Rattle.definition.specs.Word.{smallest}
 use Rattle.definition.specs.Memory.{cell, empty, word, cellAt, putCell}
 use Rattle.definition.specs.Encoding.{tagOf}
-use Rattle.definition.specs.Calls.{Lent, lent, Called, runCall, at, put, cellOfRow, putCellOfRow}
+use Rattle.definition.specs.Calls.{Lent, lent, Called, runCall, raise, at, put, cellOfRow, putCellOfRow}
 
 -- A cell of the image, by its address.
 pub record Line : Type 0 where
@@ -352,5 +352,17 @@ unfoldable pub Shows : List Row → Type 0
 Shows [] = Unit {0}
 Shows (r ∷ rs) = (shown (r .given .look) (runCall (r .given .budget) (lentCase (r .given))) ≡ r .expected) × Shows rs
 
-abbrev pub Course : Type 0
-Course = Shows table
+-- "a handler entry by code 0 or by raise takes off none": code 4 raised with 1 of 5 cycles left.
+unfoldable pub raisedRow : List ℤ
+raisedRow =
+    let l = lentCase (kernel (pos 5) (pos 1) (pos 0) nop 0) in
+    raise (l .cells) (l .row) 4 .left .1
+
+pub record Raises : Type 0 where
+  pub cycles : at ROW-CYCLES raisedRow ≡ pos 1
+  pub remaining : at ROW-REMAINING raisedRow ≡ pos 1
+  pub mark : at ROW-MARK raisedRow ≡ pos 0
+
+pub record Course : Type 0 where
+  pub table-shows : Shows table
+  pub raise-shows : Raises
