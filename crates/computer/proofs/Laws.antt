@@ -23,6 +23,7 @@ use Rattle.definition.specs.Runtime.{Machine, with-core, with-mark, with-timer,
 use Rattle.definition.specs.Timer.{with-timer-mark, tick}
 use Rattle.definition.specs.Accepted.{AcceptedMachine}
 use Rattle.definition.proofs.Step.{limit-below}
+use Rattle.definition.proofs.Ticks.{tick-off}
 use Rattle.definition.proofs.Total.{total-plain, total-zero, total-assoc}
 use Rattle.definition.proofs.Accepted.{OutcomeHas, Stepped, step-accepted, uncounted-in, run-most}
 use Rattle.memory.proofs.Laws.{over-none}
@@ -38,7 +39,6 @@ use Rattle.runtime.specs.declared.arrive.Performed.{Performed}
 use Rattle.runtime.specs.declared.arrive.Arrival.{Arrival}
 use Rattle.runtime.specs.Meaning.{machineAt, guardOf, effectsAt, unsent, turnOf, Fetches, performedRes, concludedBy, concluded, done, attempted, executedAt, servedTurn, Serves, Concludes, outcomeAt}
 use Rattle.runtime.proofs.Served.{serves-made, serves-unwritten}
-use Rattle.timer.proofs.Laws.{tick-off}
 use Rattle.computer.specs.Meaning.{NEAR, quiet}
 
 -- ---- fetch and execute
@@ -169,12 +169,11 @@ module _ (l : List ℤ) (q o : List ℕ) (m : State) (f : Fetched) (h : Fetches 
   unfolding M.step M.settle M.reached
   quiet-step d v ok-is t =
       let p = quiet-parts (m .k .marks .pending) (m .timer .mark) (eqb (m .timer .interval) 0) (ltb (m .cycles + f .i .cost) NEAR) t in
-      let off : m .timer .interval ≡ 0 = eqb-true _ _ (p .2) in
       let n : m .cycles + f .i .cost < NEAR = ltb-true _ _ (p .3) in
       let after : Machine = machineAt (planned l (d .p)) q o (record { s = d .p .s; cycles = m .cycles + f .i .cost; k = m .k; fence = m .fence; timer = m .timer }) in
       sym (limit-below before (M.completed after) (omega arith))
       ∙ ap (λ (x : M.Turn). M.limit before (M.settle x)) (poll-quiet after (p .0) (p .1))
-      ∙ ap (λ (x : Timer). M.limit before (M.settle (M.poll (with-timer x after)))) (tick-off (f .i .cost) (m .timer) (omega arith))
+      ∙ ap (λ (x : Timer). M.limit before (M.settle (M.poll (with-timer x after)))) (sym (tick-off (f .i .cost) (m .timer) (eqb-true _ _ (p .2))))
       ∙ ap (λ (b : Bool). M.limit before (M.settle (concludedBy false (f .i .cost) (effectsAt l q o (m .fence) (m .cycles) (unsent (d .p) (m .k) (m .timer))) (result tt b (d .error) (coreOf l (d .p)))))) (sym ok-is)
       ∙ ap (λ (x : M.Turn). M.limit before (M.settle x)) (turn-is _ v)
     where

@@ -94,11 +94,11 @@ returns c =
     let h = at-raise .raise .ensures [] ∙ ap (raisedFrom (a .cells .now) (a .code)) (at-state .state .ensures) in
     raise-done (a .cells .now) (a .row .now) (a .code) _ (at-raise .raise .result) h t (then2 .if2 .taken) _ (c .before .write-row .ensures)
 
-cast-t24 : tie.Need-cast-t24
-cast-t24 c = search needs
-
 cast-t25 : tie.Need-cast-t25
 cast-t25 c = search needs
+
+cast-t26 : tie.Need-cast-t26
+cast-t26 c = search needs
 
 same-length-3 : tie.Need-same-length-3
 same-length-3 c = search needs
@@ -143,8 +143,8 @@ z33-raise-spec =
     same-length
     same-length-2
     returns
-    cast-t24
     cast-t25
+    cast-t26
     same-length-3
     same-length-4
     returns-2
