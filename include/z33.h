@@ -1,7 +1,7 @@
 /* The proved Z33 for C and C++: its calls over memory that the caller owns and lends for the length of a call.
  *
- * Lent are: cells, three numbers each (tag, first, second); the row of 17 numbers (a, b, pc, sp, sr, cycles, the console's marks and
- * counts, the fence); the input queue and the output record, as bytes. Each comes as a pointer and a count of elements (numbers or bytes,
+ * Lent are: cells, three numbers each (tag, first, second); the row of 20 numbers (a, b, pc, sp, sr, cycles, the console's marks and
+ * counts, the fence, the timer); the input queue and the output record, as bytes. Each comes as a pointer and a count of elements (numbers or bytes,
  * not cells); where the count is 0 the pointer may be null. Buffers of one call must not overlap.
  *
  * An answer begins with refusal and place. refusal 0: the call was done. Otherwise it is the number of what was wrong (below), place
@@ -58,7 +58,10 @@ enum {
     Z33_ROW_QUEUE_COUNT = 14,
     Z33_ROW_OUTPUT_COUNT = 15,
     Z33_ROW_FENCE = 16, /* 0 to the count of cells; 10,000 where a call is not lent them */
-    Z33_ROW_LENGTH = 17
+    Z33_ROW_TIMER_INTERVAL = 17,  /* 0: the timer is off */
+    Z33_ROW_TIMER_REMAINING = 18, /* 0 to the interval */
+    Z33_ROW_TIMER_MARK = 19,      /* 0 or 1 */
+    Z33_ROW_LENGTH = 20
 };
 
 /* Bits of sr. */
@@ -86,7 +89,9 @@ enum {
     Z33_INTERRUPT_EXCEPTION = 102,
     Z33_INTERRUPT_HANDLER = 200,
     Z33_SERIAL_STATUS_PORT = 110,
-    Z33_SERIAL_DATA_PORT = 111
+    Z33_SERIAL_DATA_PORT = 111,
+    Z33_TIMER_INTERVAL_PORT = 120,
+    Z33_TIMER_REMAINING_PORT = 121
 };
 
 /* Registers: for z33_set_register, and the detail of Z33_STOP_INVALID_REGISTER. */
@@ -122,7 +127,7 @@ enum {
     Z33_REFUSAL_CELLS = 1,        /* not 3 numbers each for 256 to 10,000 cells */
     Z33_REFUSAL_QUEUE = 2,        /* not 1 to 4,096 bytes */
     Z33_REFUSAL_OUTPUT = 3,       /* over 65,536 bytes */
-    Z33_REFUSAL_ROW = 4,          /* not 17 numbers; or the lowest place, from 1, with a number out of its range */
+    Z33_REFUSAL_ROW = 4,          /* not 20 numbers; or the lowest place, from 1, with a number out of its range */
     Z33_REFUSAL_DAMAGED_CELL = 5, /* place: its address, the lowest one */
     Z33_REFUSAL_DELIVERY = 6,     /* more bytes than the queue has free places */
     Z33_REFUSAL_DRAIN = 7,        /* the buffer is shorter than the output count */

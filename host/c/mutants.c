@@ -66,6 +66,20 @@ enum {
     FENCE_LOST,               /* set register: the fence is 0 afterwards */
     FENCE_UNTESTED,           /* set register: a fence of 10,001 is taken */
     RAISE_FENCED,             /* raise: a saved cell below the fence is not written */
+    TIMER_ENTRY_TAKES,        /* run: an entry by code 0 takes a cycle off what remains */
+    TIMER_WRITE_TAKES,        /* run: a write of port 120 takes its cost off */
+    TIMER_FIRST,              /* run: the timer's mark is polled before the console's */
+    TIMER_NOT_AFRESH,         /* run: nothing remains after the mark is set */
+    TIMER_EXCEPTION_FREE,     /* run: an exception step takes nothing off */
+    TIMER_UNHANDLED_TAKES,    /* run: an exception without handler takes a cycle off */
+    TIMER_OFF_WAITS,          /* run: a mark is not polled while the timer is off */
+    TIMER_OFF_CLEARS,         /* run: turning the timer off clears its mark */
+    TIMER_READ_AFTER,         /* run: port 121 reads what remains behind the step's own cost */
+    TIMER_READ_CUT,           /* run: only 32 bits of the interval are read */
+    TIMER_NOT_FRESH,          /* fresh: the timer stays */
+    TIMER_LOST,               /* set register: the timer's mark is 0 afterwards */
+    TIMER_UNTESTED,           /* set register: one cycle more than the interval may remain */
+    RAISE_TAKES,              /* raise: a cycle is taken off what remains */
     RAISE_NO_CYCLE,           /* raise: no cycle is added */
     RAISE_KEEPS_I,            /* raise: code 0 leaves I set */
     EXERCISE_NEXT_SEED,       /* exercise: the cells of the next seed */
@@ -85,12 +99,17 @@ enum {
     COUNT = Z33_ROW_QUEUE_COUNT,
     WRITTEN = Z33_ROW_OUTPUT_COUNT,
     FENCE = Z33_ROW_FENCE,
+    INTERVAL = Z33_ROW_TIMER_INTERVAL,
+    REMAINING = Z33_ROW_TIMER_REMAINING,
+    MARK = Z33_ROW_TIMER_MARK,
     ROW = Z33_ROW_LENGTH
 };
 enum { I = Z33_SR_INTERRUPT_ENABLE, S = Z33_SR_SUPERVISOR, HANDLER = Z33_INTERRUPT_HANDLER };
 /* op * 36 + m1 * 6 + m2 */
 enum {
     CALL_DIRECT = 2 * 36 + 3 * 6,
+    IN_DIRECT = 6 * 36 + 3 * 6 + 2,
+    OUT_DIRECT = 20 * 36 + 1 * 6 + 3,
     FAS_DIRECT = 5 * 36 + 3 * 6 + 2,
     PUSH_IMMEDIATE = 22 * 36 + 1 * 6,
     SWAP_DIRECT = 30 * 36 + 3 * 6 + 2,
@@ -115,10 +134,11 @@ z33_done z33_fresh(int64_t *cells, size_t cells_len, int64_t *row, size_t row_le
     if (MUTANT == MOST_CELLS && cells_len == 30003) {
         cells_len = 30000;
     }
-    int64_t fence = row_len == ROW ? row[FENCE] : 0;
+    int place = MUTANT == TIMER_NOT_FRESH ? INTERVAL : FENCE;
+    int64_t kept = row_len == ROW ? row[place] : 0;
     z33_done done = whole_z33_fresh(cells, cells_len, row, row_len);
-    if (MUTANT == FENCE_NOT_FRESH && done.refusal == 0) {
-        row[FENCE] = fence;
+    if ((MUTANT == FENCE_NOT_FRESH || MUTANT == TIMER_NOT_FRESH) && done.refusal == 0) {
+        row[place] = kept;
     }
     return done;
 }
@@ -218,6 +238,38 @@ static void fence_after(const int64_t *instruction, const int64_t *before, const
     }
 }
 
+/* Whether the poll of a step with these marks takes the other one, and which is put back afterwards. */
+static int polls_otherwise(int64_t *row) {
+    int first = MUTANT == TIMER_FIRST && row[PENDING] == 1;
+    int waits = MUTANT == TIMER_OFF_WAITS && row[INTERVAL] == 0;
+    if (!(first || waits) || row[MARK] == 0 || !(row[SR] & I)) {
+        return 0;
+    }
+    row[first ? PENDING : MARK] = 0;
+    return first ? PENDING : MARK;
+}
+
+/* A step with the timer, changed: the instruction's cell and the row as they were before. */
+static void timer_after(const int64_t *instruction, const int64_t *before, const int64_t *cells, int64_t *row, const z33_ran *ran) {
+    int64_t form = (instruction[0] - 2) / 25, port = form == OUT_DIRECT ? instruction[2] : instruction[1];
+    int entered = ran->steps == 1 && row[PC] == HANDLER && row[CYCLES] > before[CYCLES];
+    int writes = form == OUT_DIRECT && port == 120 && ran->steps == 1 && (before[SR] & S);
+    int reads = form == IN_DIRECT && ran->steps == 1 && (before[SR] & S) && (instruction[0] - 2) % 5 == 0;
+    int code_0 = entered && cells[3 * 102 + 1] == 0 && row[CYCLES] - before[CYCLES] > 1;
+    int by_code = entered && cells[3 * 102 + 1] != 0;
+    switch (MUTANT) {
+    case TIMER_ENTRY_TAKES: if (code_0 && row[REMAINING] > 1) row[REMAINING]--; break;
+    case TIMER_WRITE_TAKES: if (writes && row[REMAINING] > 2) row[REMAINING] -= 2; break;
+    case TIMER_NOT_AFRESH: if (!writes && row[INTERVAL] > 0 && row[REMAINING] > before[REMAINING]) row[REMAINING] = 0; break;
+    case TIMER_EXCEPTION_FREE: if (by_code && form != OUT_DIRECT) row[REMAINING] = before[REMAINING]; break;
+    case TIMER_UNHANDLED_TAKES: if (ran->stop == 2 && ran->detail > 0 && row[REMAINING] > 1) row[REMAINING]--; break;
+    case TIMER_OFF_CLEARS: if (writes && row[INTERVAL] == 0) row[MARK] = 0; break;
+    case TIMER_READ_AFTER: if (reads && port == 121 && before[REMAINING] > 2) row[Z33_ROW_A + 1] -= 2; break;
+    case TIMER_READ_CUT: if (reads && port == 120) row[Z33_ROW_A + 1] = (uint32_t)row[Z33_ROW_A + 1]; break;
+    default: break;
+    }
+}
+
 /* The machine after one step that was taken, changed. */
 static void step_after(int64_t *cells, size_t cells_len, int64_t *row, z33_ran *ran) {
     int entered = ran->steps == 1 && row[PC] == HANDLER && cells[3 * 102 + 1] != 0;
@@ -278,10 +330,12 @@ z33_ran z33_run(int64_t *cells, size_t cells_len, uint8_t *queue, size_t queue_l
     } else if (MUTANT == FENCE_OUT_OF_RANGE && ran.refusal == 4 && ran.place == FENCE + 1 && before[FENCE] == (int64_t)(cells_len / 3) + 1) {
         row[FENCE]--;
     }
+    int otherwise = ran.refusal == 0 && budget == 1 ? polls_otherwise(row) : 0;
     ran = whole_z33_run(cells, cells_len, queue, queue_len, output, output_len, row, row_len, other_budget(budget) - first);
     ran.steps += first;
     if (ran.refusal == 0) {
         row[FENCE] = before[FENCE];
+        row[otherwise ? otherwise : FENCE] = before[otherwise ? otherwise : FENCE];
     }
     if (ran.refusal != 0) {
         ran.place += MUTANT == PLACE_OF_DAMAGE && ran.refusal == 5;
@@ -293,6 +347,7 @@ z33_ran z33_run(int64_t *cells, size_t cells_len, uint8_t *queue, size_t queue_l
     step_after(cells, cells_len, row, &ran);
     if (budget == 1 && form >= 0) {
         fence_after(instruction, before, saved, cells, cells_len, row, &ran);
+        timer_after(instruction, before, cells, row, &ran);
     }
     if (MUTANT == NEGATIVE_TRAPS && budget == 1 && ran.stop == 4 && form == LD_INDIRECT) {
         raise_5(cells, cells_len, row, &ran);
@@ -405,8 +460,11 @@ z33_done z33_set_register(int64_t *row, size_t row_len, uint64_t reg, int64_t wo
     if (MUTANT == FENCE_UNTESTED && done.refusal == 4 && done.place == FENCE + 1 && row[FENCE] == 10001) {
         return (z33_done){0, 0};
     }
-    if (MUTANT == FENCE_LOST && done.refusal == 0) {
-        row[FENCE] = 0;
+    if (MUTANT == TIMER_UNTESTED && done.refusal == 4 && done.place == REMAINING + 1 && row[REMAINING] == row[INTERVAL] + 1) {
+        return (z33_done){0, 0};
+    }
+    if ((MUTANT == FENCE_LOST || MUTANT == TIMER_LOST) && done.refusal == 0) {
+        row[MUTANT == FENCE_LOST ? FENCE : MARK] = 0;
     }
     return done;
 }
@@ -425,6 +483,7 @@ z33_raised z33_raise(int64_t *cells, size_t cells_len, int64_t *row, size_t row_
     }
     if (raised.refusal == 0 && raised.stop == 0) {
         row[CYCLES] -= MUTANT == RAISE_NO_CYCLE;
+        row[REMAINING] -= MUTANT == RAISE_TAKES && row[REMAINING] > 1;
         if (MUTANT == RAISE_KEEPS_I && code == 0) {
             row[SR] |= cells[3 * 101 + 1] & I;
         }

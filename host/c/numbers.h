@@ -24,7 +24,8 @@ IS(Z33_PC, 2);
 IS(Z33_SP, 3);
 IS(Z33_SR, 4);
 
-/* "Row of 16 numbers" and "a seventeenth number, the fence": a place from 1 is one more than the constant. */
+/* "Row of 16 numbers", "a seventeenth number, the fence", "interval [...], remaining [...] and mark": a place from 1 is one more than the
+ * constant. */
 IS(Z33_ROW_A + 1, 1);
 IS(Z33_ROW_B + 1, 4);
 IS(Z33_ROW_PC + 1, 7);
@@ -38,7 +39,14 @@ IS(Z33_ROW_QUEUE_START + 1, 14);
 IS(Z33_ROW_QUEUE_COUNT + 1, 15);
 IS(Z33_ROW_OUTPUT_COUNT + 1, 16);
 IS(Z33_ROW_FENCE + 1, 17);
-IS(Z33_ROW_LENGTH, Z33_ROW_FENCE + 1);
+IS(Z33_ROW_TIMER_INTERVAL + 1, 18);
+IS(Z33_ROW_TIMER_REMAINING + 1, 19);
+IS(Z33_ROW_TIMER_MARK + 1, 20);
+IS(Z33_ROW_LENGTH, Z33_ROW_TIMER_MARK + 1);
+
+/* "A timer on ports 120 and 121." */
+IS(Z33_TIMER_INTERVAL_PORT, 120);
+IS(Z33_TIMER_REMAINING_PORT, 121);
 
 /* "exceptions with codes 0 to 5" */
 IS(Z33_HARDWARE_INTERRUPT, 0);

@@ -1,4 +1,4 @@
-/* Document 01's worked run from C, the other calls, the fence, and buffers of length 0 that come as null pointers.
+/* Document 01's worked run from C, the other calls, the fence, the timer, and buffers of length 0 that come as null pointers.
  * Prints the runner's eight lines; worked.txt holds what they must be. */
 #include <inttypes.h>
 #include <stdio.h>
@@ -100,6 +100,24 @@ static void fence(void) {
     due(z33_set_register(row, ROW, Z33_A, 1).place == Z33_ROW_FENCE + 1, "a fence behind the last cell that there can be");
 }
 
+/* The kernel turns the timer on, and a loop in user mode is interrupted; and what remains is no more than the interval. */
+static void timer(void) {
+    static const int64_t image[] = {18227, 3, 120, 6452, 1, 0}; /* out 3,[120]; jmp 1 */
+    static const int64_t nop[] = {15302, 0, 0};
+    start();
+    is_done(z33_load(cells, NUMBERS, image, 6, 0), "the loop was refused");
+    is_done(z33_load(cells, NUMBERS, nop, 3, Z33_INTERRUPT_HANDLER), "the handler was refused");
+    row[Z33_ROW_SR] = Z33_SR_SUPERVISOR;
+    z33_ran ran = z33_run(cells, NUMBERS, queue, QUEUE, output, OUTPUT, row, ROW, 1);
+    due(ran.steps == 1 && row[Z33_ROW_TIMER_INTERVAL] == 3 && row[Z33_ROW_TIMER_REMAINING] == 3, "port 120 was written");
+    row[Z33_ROW_SR] = Z33_SR_INTERRUPT_ENABLE;
+    ran = z33_run(cells, NUMBERS, queue, QUEUE, output, OUTPUT, row, ROW, 3);
+    due(ran.steps == 3 && row[Z33_ROW_PC] == Z33_INTERRUPT_HANDLER && row[Z33_ROW_TIMER_MARK] == 0, "the loop was not interrupted");
+    due(cells[3 * Z33_INTERRUPT_EXCEPTION + Z33_FIRST] == Z33_HARDWARE_INTERRUPT && row[Z33_ROW_TIMER_REMAINING] == 3, "it did not start afresh");
+    row[Z33_ROW_TIMER_REMAINING] = 4;
+    due(z33_set_register(row, ROW, Z33_A, 1).place == Z33_ROW_TIMER_REMAINING + 1, "more remains than there is");
+}
+
 /* The worked run's two cells, written as text. */
 static void as_text(void) {
     static const char text[] = "add 5, %a\nreset\n";
@@ -153,6 +171,7 @@ int main(void) {
     other_calls();
     long_budgets();
     fence();
+    timer();
     as_text();
     null_is_refused();
     null_is_taken();

@@ -1,4 +1,4 @@
-//! The five loops, as cells. None of them touches the console.
+//! The six loops, as cells. None of them touches the console; the last has the timer on.
 
 use layout::cell::{self, EMPTY, word};
 use layout::form::{NONE, dir, idx, imm, ind, instruction, reg};
@@ -6,6 +6,7 @@ use layout::limit::CELLS_MOST;
 use layout::memory::INTERRUPT_HANDLER;
 use layout::op::{ADD, CALL, CMP, JMP, JNE, LD, MUL, POP, PUSH, RTI, RTN, ST, SUB, TRAP, XOR};
 use layout::reg::{A, B};
+use layout::sr::INTERRUPT_ENABLE;
 use layout::{Cell, ROW, Row, at, row};
 
 pub struct Program {
@@ -68,7 +69,30 @@ pub fn all() -> Vec<Program> {
                 (INTERRUPT_HANDLER as usize, instruction(RTI, NONE, NONE)),
             ],
         ),
+        preempted(program(
+            "e  add jmp, the timer on",
+            &[
+                (0, instruction(ADD, imm(1), reg(A))),
+                (1, again),
+                (INTERRUPT_HANDLER as usize, instruction(RTI, NONE, NONE)),
+            ],
+        )),
     ]
+}
+
+/// Interrupted after each hundred cycles.
+fn preempted(mut program: Program) -> Program {
+    program.row[at::SR] = INTERRUPT_ENABLE;
+    program.row[at::TIMER_INTERVAL] = 100;
+    program.row[at::TIMER_REMAINING] = 100;
+    program
+}
+
+impl Program {
+    /// The original has no timer: it runs this loop without.
+    pub fn is_timed(&self) -> bool {
+        self.row[at::TIMER_INTERVAL] > 0
+    }
 }
 
 /// 10,000 cells of one kind, for the acceptance tests that each call makes once.

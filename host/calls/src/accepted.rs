@@ -80,11 +80,20 @@ fn draw_row(rng: &mut Rng, trial: &mut Trial, cells: usize) {
     row[at::QUEUE_COUNT] = up_to(rng, queue);
     row[at::OUTPUT_COUNT] = up_to(rng, output);
     row[at::FENCE] = up_to(rng, most);
+    draw_timer(rng, &mut row);
     if trial.call == Call::Fresh {
         // "never the row's old numbers"
         row = (0..ROW).map(|_| edges::word(rng)).collect();
     }
     trial.lent.row = row;
+}
+
+/// Off half of the time.
+fn draw_timer(rng: &mut Rng, row: &mut [i64]) {
+    row[at::TIMER_INTERVAL] = if rng.once_in(2) { 0 } else { rng.pick(&[1, 2, 3, 4, 5, 9, i64::MAX]) };
+    let interval = row[at::TIMER_INTERVAL];
+    row[at::TIMER_REMAINING] = rng.pick(&[0, 1, 2, interval / 2, interval]).min(interval);
+    row[at::TIMER_MARK] = rng.between(0, 1);
 }
 
 /// The least, the most, or anything between.
@@ -132,7 +141,8 @@ fn draw_program(rng: &mut Rng, trial: &mut Trial, count: usize) {
     for address in pc..(pc + 6).min(count) {
         let cell = match rng.below(12) {
             0 => instruction(OUT, imm(rng.draw() as i64), dir(111)),
-            1 => instruction(IN, dir(rng.between(110, 111)), reg(rng.between(0, REGISTERS - 1))),
+            1 => instruction(IN, dir(rng.pick(&[110, 111, 120, 121])), reg(rng.between(0, REGISTERS - 1))),
+            3 if rng.once_in(2) => instruction(OUT, imm(rng.between(-1, 5)), dir(120)),
             2 => instruction(RESET, NONE, NONE),
             _ => edges::instruction(rng),
         };

@@ -197,8 +197,13 @@ fn row_faults(trial: &Trial, faults: &mut Vec<Fault>) {
     for place in [at::A, at::B] {
         faults.extend(DAMAGED.map(|cell| Fault::RowCell(place, cell)));
     }
-    faults.extend([-1, i64::MIN].map(|number| Fault::RowNumber(at::CYCLES, number)));
-    for place in MARKS {
+    for place in [at::CYCLES, at::TIMER_INTERVAL, at::TIMER_REMAINING] {
+        faults.extend([-1, i64::MIN].map(|number| Fault::RowNumber(place, number)));
+    }
+    if let Some(past) = trial.lent.row[at::TIMER_INTERVAL].checked_add(1) {
+        faults.extend([past, i64::MAX].map(|number| Fault::RowNumber(at::TIMER_REMAINING, number)));
+    }
+    for place in MARKS.into_iter().chain([at::TIMER_MARK]) {
         faults.extend(NO_MARKS.map(|number| Fault::RowNumber(place, number)));
     }
     for (place, past) in [

@@ -30,7 +30,7 @@ pub fn output(length: usize) -> Tested {
     test(length <= OUTPUT_MOST, refusal::OUTPUT, 0)
 }
 
-/// "Refusal 4 now wants 17 numbers."
+/// "The row gains interval (0 or more), remaining (0 to the interval) and mark (0 or 1), [...] 20 numbers"
 pub fn row_length(length: usize) -> Tested {
     test(length == ROW, refusal::ROW, 0)
 }
@@ -53,6 +53,9 @@ pub fn row(row: &[i64], queue: usize, output: usize, cells: usize) -> Tested {
         (at::QUEUE_COUNT, queue),
         (at::OUTPUT_COUNT, output),
         (at::FENCE, cells),
+        (at::TIMER_INTERVAL, i64::MAX),
+        (at::TIMER_REMAINING, row[at::TIMER_INTERVAL]),
+        (at::TIMER_MARK, 1),
     ];
     for (place, most) in most {
         test((0..=most).contains(&row[place]), refusal::ROW, from_1(place))?;

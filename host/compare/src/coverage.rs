@@ -26,23 +26,25 @@ const ON_SP: Outcome = Stopped(stop::INVALID_REGISTER, SP as u64);
 const ON_SR: Outcome = Stopped(stop::INVALID_REGISTER, SR as u64);
 
 /// Kinds of steps: those that the original answers; those that read an operand outside the cells, where it has no answer (document 02,
-/// Card 9); and those that the fence stopped, which it has not (Card 5).
+/// Card 9); those that the fence stopped, which it has not (Card 5); and others in which the timer had a part, which it has not (Card 14).
 #[derive(Clone, Copy, Debug, PartialEq, Eq)]
 pub enum Kind {
     Own,
     ReadOutside,
     Fenced,
+    Timed,
 }
 
-pub const KINDS: [Kind; 3] = [Kind::Own, Kind::ReadOutside, Kind::Fenced];
-/// Those of machines without a fence.
-pub const WITHOUT_FENCE: [Kind; 2] = [Kind::Own, Kind::ReadOutside];
+pub const KINDS: [Kind; 4] = [Kind::Own, Kind::ReadOutside, Kind::Fenced, Kind::Timed];
+/// Those of machines without fence and timer.
+pub const BASE_KINDS: [Kind; 2] = [Kind::Own, Kind::ReadOutside];
 
 impl Kind {
     fn of(step: &Step) -> Self {
         match (step.read_outside, step.fenced) {
             (_, true) => Kind::Fenced,
             (true, _) => Kind::ReadOutside,
+            _ if step.timed => Kind::Timed,
             _ => Kind::Own,
         }
     }
@@ -52,13 +54,14 @@ impl Kind {
             Kind::Own => "",
             Kind::ReadOutside => " after a read outside",
             Kind::Fenced => " at the fence",
+            Kind::Timed => " with the timer",
         }
     }
 }
 
 /// Every outcome with the count of forms (of the 124, and the fetch) that the original can come to it with, of those that come to it by
 /// reading an operand outside the cells, and of those that come to it by the fence.
-pub const OUTCOMES: [(Outcome, [usize; KINDS.len()]); 21] = [
+pub const OUTCOMES: [(Outcome, [usize; 3]); 21] = [
     (Done, [122, 0, 0]),
     (Interrupt, [122, 0, 0]),
     (Entered(code::DIV_BY_ZERO), [5, 0, 0]),
@@ -82,12 +85,13 @@ pub const OUTCOMES: [(Outcome, [usize; KINDS.len()]); 21] = [
     (Stopped(stop::CYCLES_FULL, 0), [124, 60, 16]),
 ];
 
-/// (form, outcome) pairs: the original's, those of them that are no more, those that it cannot come to, and all that are possible. The
-/// fence brings no pair that is not among them.
+/// (form, outcome) pairs: the original's, those of them that are no more, those that it cannot come to by a read outside and by the
+/// timer's ports, and all that are possible. The fence brings no pair that is not among them.
 const IN_THE_ORIGINAL: usize = 937;
 const CEASED: usize = 2;
 const NEW: usize = 110;
-const PAIRS: usize = IN_THE_ORIGINAL - CEASED + NEW;
+const BY_TIMER: usize = 6;
+const PAIRS: usize = IN_THE_ORIGINAL - CEASED + NEW + BY_TIMER;
 
 pub fn outcome(step: &Step) -> Outcome {
     match (step.completed, step.entered) {
@@ -109,9 +113,20 @@ pub fn column(outcome: Outcome) -> Result<usize, String> {
 pub fn possible(form: Option<Form>, outcome: Outcome, kind: Kind) -> bool {
     match kind {
         Kind::Own => in_the_original(form, outcome) && !ceased(form, outcome),
+        Kind::Timed => possible(form, outcome, Kind::Own) || by_timer(form, outcome),
         Kind::ReadOutside => traps(form, outcome),
         Kind::Fenced => fenced(form, outcome),
     }
+}
+
+/// What a step must reach: with the timer only what it alone brings, for its part in all others is told apart (`timer`).
+fn required(form: Option<Form>, outcome: Outcome, kind: Kind) -> bool {
+    if kind == Kind::Timed { by_timer(form, outcome) } else { possible(form, outcome, kind) }
+}
+
+/// The timer's ports read words that are no addresses.
+fn by_timer(form: Option<Form>, outcome: Outcome) -> bool {
+    form.is_some_and(|form| form.op == IN) && matches!(outcome, ON_PC | ON_SP)
 }
 
 /// Whether an operand of this form is a cell of memory that is read, and outside raises code 5.
@@ -248,6 +263,10 @@ impl Coverage {
         assert_eq!(total(in_the_original), IN_THE_ORIGINAL);
         assert_eq!(total(|form, outcome| in_the_original(form, outcome) && ceased(form, outcome)), CEASED);
         assert_eq!(total(|form, outcome| traps(form, outcome) && !in_the_original(form, outcome)), NEW);
+        assert_eq!(
+            total(|form, outcome| by_timer(form, outcome) && !in_the_original(form, outcome)),
+            BY_TIMER
+        );
         let known = |form, outcome| traps(form, outcome) || in_the_original(form, outcome);
         assert!(self.pairs().all(|(form, outcome)| known(form, outcome) || !fenced(form, outcome)));
     }
@@ -277,7 +296,7 @@ impl Coverage {
         for kind in kinds {
             let counts = self.counts[*kind as usize].iter().flatten();
             for ((form, outcome), count) in self.pairs().zip(counts) {
-                if possible(form, outcome, *kind) && *count < times {
+                if required(form, outcome, *kind) && *count < times {
                     missing.push(format!("{} {outcome:?}{}", name(form), kind.told()));
                 }
             }
@@ -316,10 +335,11 @@ impl Coverage {
             format!("{all} of {of} (form, outcome) pairs reached; {}", self.summary()),
             format!(
                 "{} of these pairs by the original's own answers, {} in steps that read an operand outside the cells, {} in steps \
-                 that the fence stopped; {NEW} that it cannot come to, and without {} of its {IN_THE_ORIGINAL}: {}",
+                 that the fence stopped, {} in steps with the timer; {NEW} and {BY_TIMER} that it cannot come to, and without {} of its {IN_THE_ORIGINAL}: {}",
                 reached(Kind::Own),
                 reached(Kind::ReadOutside),
                 reached(Kind::Fenced),
+                reached(Kind::Timed),
                 CEASED,
                 names(ceased).join(", ")
             ),

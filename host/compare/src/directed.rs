@@ -8,6 +8,7 @@ mod empty;
 mod fence;
 mod outside;
 mod rules;
+mod timer;
 
 use layout::memory::{INTERRUPT_EXCEPTION, INTERRUPT_HANDLER, INTERRUPT_PC_SAVE, INTERRUPT_SR_SAVE};
 use layout::{Cell, code, refusal, row, stop};
@@ -29,7 +30,7 @@ pub struct Directed {
     after: Lent,
 }
 
-/// All of machines without a fence, in a fixed order: the recorded list has them.
+/// All of machines without fence and timer, in a fixed order: the recorded list has them.
 pub fn cases() -> Vec<Directed> {
     let mut cases = course::cases();
     cases.extend(rules::cases());
@@ -49,6 +50,11 @@ pub fn check(harness: &mut Harness) -> Result<usize, String> {
 /// The same of those with a fence.
 pub fn check_fenced(harness: &mut Harness) -> Result<usize, String> {
     check_each(harness, &fence::cases())
+}
+
+/// The same of those with the timer.
+pub fn check_timed(harness: &mut Harness) -> Result<usize, String> {
+    check_each(harness, &timer::cases())
 }
 
 fn check_each(harness: &mut Harness, cases: &[Directed]) -> Result<usize, String> {

@@ -5,19 +5,19 @@ use layout::cell::{self, EMPTY, is_instruction};
 use layout::{Cell, at, refusal};
 use list::{Answer, CELLS, Call, Case};
 
-use crate::taken;
+use crate::{taken, timer};
 
 pub struct Driver {
     pub judge: Judge,
     /// Addresses that may hold something: the case's cells and those written since.
     used: Vec<usize>,
-    /// Steps of this case that read an operand outside the cells, where the original has no answer.
-    pub read_outside: u64,
+    /// Steps of this case that are no answers of the original: they read an operand outside the cells, or the timer had a part in them.
+    pub not_its_own: u64,
 }
 
 impl Default for Driver {
     fn default() -> Self {
-        Self { judge: Judge::empty(), used: Vec::new(), read_outside: 0 }
+        Self { judge: Judge::empty(), used: Vec::new(), not_its_own: 0 }
     }
 }
 
@@ -33,14 +33,14 @@ impl Driver {
             self.used.push(*address);
         }
         self.judge.put_rest(&case.queue, &case.output, &case.row);
-        self.read_outside = 0;
+        self.not_its_own = 0;
         emptied
     }
 
     pub fn step(&mut self) -> Step {
-        let step = step(&mut self.judge);
+        let step = timer::step(&mut self.judge);
         self.used.extend_from_slice(self.judge.changed());
-        self.read_outside += u64::from(step.read_outside);
+        self.not_its_own += u64::from(step.read_outside || step.timed);
         step
     }
 
@@ -67,7 +67,7 @@ impl Driver {
     }
 }
 
-/// The judge's step; where its write would fall below the fence, it ends there. What is told apart from any machine is that place alone.
+/// The judge's step, the timer apart; where its write would fall below the fence, it ends there. What is told apart from any machine is that place alone.
 pub fn step(judge: &mut Judge) -> Step {
     let there = fetched(judge).and_then(|cell| taken::at_fence(judge.row(), judge.cells(), cell));
     match there {

@@ -2,7 +2,7 @@
 //!
 //! Steps that read an operand outside the cells, and no others, are left out of the comparison with the original, which stops there:
 //! they are counted apart, and held to the original's stop with its own entry of code 5 after it (`Judge`). So are steps that a fence
-//! stops: where their write is due is told from the machine before (`taken`), and there the original's own entry of code 5 is made.
+//! stops, and the timer's part in a step (`timer`): where their write is due is told from the machine before (`taken`), and there the original's own entry of code 5 is made.
 //!
 //! A run is taken step by step, the other machine on a budget of 1, and then once more by the other machine on
 //! the whole budget. The judge's cells are compared as the numbers that it keeps; nothing is converted. The original does not count the
@@ -19,6 +19,7 @@ use crate::driver::{Driver, fetched};
 use crate::fence;
 use crate::invariants::{self, Before};
 use crate::taken;
+use crate::timer;
 
 /// The judge's numbers are compared with the original in full after so many steps, and after each longer case.
 const VERIFY_EVERY: u64 = 256;
@@ -30,6 +31,7 @@ pub struct Harness<'m> {
     pub coverage: Coverage,
     pub taken: taken::Coverage,
     pub fence: fence::Coverage,
+    pub timer: timer::Coverage,
     pub steps: u64,
     /// Of these, steps that read an operand outside the cells.
     pub read_outside: u64,
@@ -45,6 +47,7 @@ impl<'m> Harness<'m> {
             coverage: Coverage::default(),
             taken: taken::Coverage::default(),
             fence: fence::Coverage::default(),
+            timer: timer::Coverage::default(),
             steps: 0,
             read_outside: 0,
             calls: 0,
@@ -118,6 +121,7 @@ impl<'m> Harness<'m> {
         let before = self.before();
         let events = self.events(&before);
         let written = self.written(&before);
+        let port = before.fetched.and_then(|cell| timer::timer_port(&self.driver.judge, cell));
         let [fetched, saved] = self.empty_around();
         let step = self.driver.step();
         self.steps += 1;
@@ -132,6 +136,16 @@ impl<'m> Harness<'m> {
         invariants::check(&before, &step, judge.row(), judge.cells(), judge.changed())?;
         if before.row[at::FENCE] > 0 {
             self.fence.count(&before.row, before.fetched, written, &step, judge.row());
+        }
+        if step.timed {
+            let Before { row, fetched } = &before;
+            self.timer.count(&timer::Taken {
+                before: row,
+                fetched: *fetched,
+                port,
+                step: &step,
+                after: judge.row(),
+            });
         }
         self.coverage.count(before.fetched, &step)?;
         self.taken.count(before.fetched, &events, &step)?;

@@ -24,6 +24,9 @@ pub fn check(
     if before.row[at::SR] & SUPERVISOR == 0 {
         console_kept(&before.row, row)?;
         fence_kept(&before.row, step, changed)?;
+        if before.row[at::TIMER_INTERVAL] != row[at::TIMER_INTERVAL] {
+            return Err("a step begun with S clear set the timer".into());
+        }
         if row[at::SR] & SUPERVISOR != 0 {
             entered(step, row, cells)?;
         }
@@ -33,6 +36,9 @@ pub fn check(
     }
     if before.row[at::FENCE] != row[at::FENCE] {
         return Err("a step moved the fence".into());
+    }
+    if !(0..=row[at::TIMER_INTERVAL]).contains(&row[at::TIMER_REMAINING]) {
+        return Err("more of the timer's interval remains than there is".into());
     }
     Ok(())
 }

@@ -15,6 +15,7 @@ pub mod runner;
 pub mod single;
 pub mod tags;
 pub mod taken;
+pub mod timer;
 pub mod words;
 
 pub use draws::{edges, forms, rng};

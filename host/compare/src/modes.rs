@@ -2,11 +2,10 @@
 
 use list::Case;
 
-use crate::coverage::{KINDS, WITHOUT_FENCE};
-use crate::fence;
+use crate::coverage::{BASE_KINDS, Kind};
 use crate::harness::Harness;
 use crate::rng::Rng;
-use crate::{directed, forms, pairs, programs, single, tags, words};
+use crate::{directed, fence, forms, pairs, programs, single, tags, timer, words};
 
 /// How much of each generator is run.
 pub struct Size {
@@ -15,6 +14,8 @@ pub struct Size {
     pub pairs: usize,
     /// Single steps with a fence, and a program with one for each five hundred of them.
     pub fenced: usize,
+    /// Single steps with the timer, and a program with it for each five hundred of them.
+    pub timed: usize,
     /// Exercise loads of 10,000 cells.
     pub loads: usize,
 }
@@ -27,13 +28,15 @@ impl Size {
             programs: steps / 2_400,
             pairs: steps / 600,
             fenced: steps / 8,
+            timed: steps / 8,
             loads: steps / 20_000,
         }
     }
 }
 
 /// About two million steps; a quarter of a minute on the plain interpreter.
-pub const CHECK: Size = Size { singles: 800_000, programs: 1_700, pairs: 4_000, fenced: 200_000, loads: 300 };
+pub const CHECK: Size =
+    Size { singles: 800_000, programs: 1_700, pairs: 4_000, fenced: 200_000, timed: 300_000, loads: 300 };
 
 /// Runs every mode; lines that say what was compared, or the first difference.
 pub fn all(harness: &mut Harness, size: &Size, seed: u64) -> Result<Vec<String>, String> {
@@ -46,15 +49,19 @@ pub fn all(harness: &mut Harness, size: &Size, seed: u64) -> Result<Vec<String>,
     programs(harness, size.programs, seed)?;
     let user = pairs::check(&mut Rng::new(seed + 2), size.pairs, 300)?;
     let (after_programs, calls, outside) = (harness.steps, harness.calls, harness.read_outside);
-    reached(harness.coverage.missing(&WITHOUT_FENCE, 1))?;
+    reached(harness.coverage.missing(&BASE_KINDS, 1))?;
     let fenced = directed::check_fenced(harness)?;
     with_a_fence(harness, size.fenced, seed + 3)?;
-    reached(
-        [harness.coverage.missing(&KINDS, 1), harness.taken.missing(), harness.fence.missing()].concat(),
-    )?;
+    reached([harness.coverage.missing(&[Kind::Fenced], 1), harness.fence.missing()].concat())?;
+    let timed = directed::check_timed(harness)?;
+    with_the_timer(harness, size.timed, seed + 4)?;
+    let missing = harness.coverage.missing(&[Kind::Timed], 1);
+    reached([missing, harness.timer.missing(), harness.taken.missing()].concat())?;
     let mut lines = vec![
         format!("{tags} cells: sound, encoding and cost as the original's types have them"),
-        format!("{directed} directed cases as written out by hand, and {fenced} with a fence"),
+        format!(
+            "{directed} directed cases as written out by hand, {fenced} with a fence, {timed} with the timer"
+        ),
         format!(
             "{} steps and {} calls compared: single {after_singles}, words {}, programs {}; of these steps {} read an operand \
              outside the cells, and are held to the original's stop with its own entry of code 5 after it",
@@ -65,6 +72,7 @@ pub fn all(harness: &mut Harness, size: &Size, seed: u64) -> Result<Vec<String>,
             outside
         ),
         harness.fence.told(),
+        harness.timer.told(),
         format!("{user} steps in user mode by two machines with different consoles, alike"),
     ];
     lines.extend(harness.coverage.told());
@@ -98,6 +106,18 @@ fn with_a_fence(harness: &mut Harness, singles: usize, seed: u64) -> Result<(), 
     }
     for _ in 0..singles / 500 {
         checked(harness, &fence::program(&mut rng))?;
+    }
+    Ok(())
+}
+
+/// Single steps and programs with the timer.
+fn with_the_timer(harness: &mut Harness, singles: usize, seed: u64) -> Result<(), String> {
+    let (mut rng, draws) = (Rng::new(seed), timer::Singles::default());
+    for turn in 0..singles {
+        checked(harness, &draws.draw(&mut rng, turn))?;
+    }
+    for _ in 0..singles / 500 {
+        checked(harness, &timer::program(&mut rng))?;
     }
     Ok(())
 }

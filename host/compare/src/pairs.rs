@@ -1,13 +1,14 @@
-//! Demand 3 on the judge itself: two machines with S clear, alike but for their consoles, stay alike; their fences are equal.
+//! Demand 3 on the judge itself: two machines with S clear, alike but for their consoles, stay alike; their fences and timers are
+//! equal.
 
 use judge::Judge;
 use layout::sr::SUPERVISOR;
 use layout::{Row, at, row};
 use list::Case;
 
-use crate::driver::step;
 use crate::rng::Rng;
-use crate::{fence, programs};
+use crate::timer::step;
+use crate::{fence, programs, timer};
 
 /// The count of steps that both took with S clear.
 pub fn check(rng: &mut Rng, programs: usize, most_steps: usize) -> Result<u64, String> {
@@ -17,6 +18,9 @@ pub fn check(rng: &mut Rng, programs: usize, most_steps: usize) -> Result<u64, S
         let mut one = programs::draw(rng);
         one.row[at::SR] &= !SUPERVISOR;
         one.row[at::FENCE] = if rng.once_in(2) { fence::fence(rng) } else { 0 };
+        if rng.once_in(2) {
+            timer::put(rng, &mut one.row);
+        }
         let two = other_console(rng, &one);
         for (judge, case) in judges.iter_mut().zip([&one, &two]) {
             let lent = case.lent();

@@ -6,7 +6,7 @@ use layout::at;
 use layout::stop::{BUDGET_SPENT, OUTPUT_FULL};
 use list::{Call, Case, Lent, Plain, Recorded, Writer};
 
-use crate::coverage::{Coverage, WITHOUT_FENCE};
+use crate::coverage::{BASE_KINDS, Coverage};
 use crate::driver::{Driver, fetched};
 use crate::forms::*;
 use crate::rng::Rng;
@@ -49,7 +49,7 @@ pub fn list() -> Result<List, String> {
     recorder.worked_runs()?;
     recorder.for_runner()?;
     let of_plain = recorder.of_plain()?;
-    let missing = recorder.coverage.missing(&WITHOUT_FENCE, EACH_PAIR);
+    let missing = recorder.coverage.missing(&BASE_KINDS, EACH_PAIR);
     if !missing.is_empty() {
         return Err(format!("{} (form, outcome) pairs are not recorded: {missing:?}", missing.len()));
     }
@@ -79,7 +79,7 @@ impl Recorder {
     /// Makes the case's calls and writes them down; or keeps the case, where the original has not all of the answers.
     fn case(&mut self, case: &Case) -> Result<(), String> {
         let calls = self.calls(case)?;
-        if self.driver.read_outside > 0 {
+        if self.driver.not_its_own > 0 {
             self.outside.push(case.clone());
         } else {
             self.write(case, &calls);
@@ -128,10 +128,11 @@ impl Recorder {
             self.driver.start(&case);
             let cell = fetched(&self.driver.judge);
             let step = self.driver.step();
-            if self.coverage.count(cell, &step)? <= EACH_PAIR {
+            // a use of the timer's ports, which the list has not
+            if !step.timed && self.coverage.count(cell, &step)? <= EACH_PAIR {
                 self.case(&case)?;
             }
-            if turn % 100_000 == 0 && self.coverage.missing(&WITHOUT_FENCE, EACH_PAIR).is_empty() {
+            if turn % 100_000 == 0 && self.coverage.missing(&BASE_KINDS, EACH_PAIR).is_empty() {
                 return Ok(());
             }
         }

@@ -176,7 +176,7 @@ fn immediate(rng: &mut Rng, op: i64) -> i64 {
 }
 
 /// The word of an operand's base register; pc has moved on.
-fn base(case: &Case, reg: i64) -> Option<i64> {
+pub fn base(case: &Case, reg: i64) -> Option<i64> {
     let row = &case.row;
     match reg {
         A => word_in(row::cell(row, at::A)),
@@ -188,7 +188,7 @@ fn base(case: &Case, reg: i64) -> Option<i64> {
 }
 
 /// pc and sr keep what they have.
-fn set_base(case: &mut Case, reg: i64, word: i64) {
+pub fn set_base(case: &mut Case, reg: i64, word: i64) {
     if reg == SP {
         case.row[at::SP] = word;
     } else {

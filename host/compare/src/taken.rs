@@ -6,7 +6,7 @@ mod possible;
 mod trace;
 
 pub use coverage::Coverage;
-pub use trace::{at_fence, events, written};
+pub use trace::{Port, at_fence, events, port, written};
 
 /// What a cell is asked for, or where it goes.
 #[derive(Clone, Copy, Debug, PartialEq, Eq, PartialOrd, Ord)]

@@ -39,6 +39,9 @@ pub struct Step {
     pub read_outside: bool,
     /// The fence stopped this step's write. The original has none: see `step_to_fence`.
     pub fenced: bool,
+    /// The timer, which the original has not, was on, its mark set, or one of its ports used. This is told by who puts the timer around the
+    /// original's step.
+    pub timed: bool,
 }
 
 #[derive(Clone, Copy, Debug, PartialEq, Eq)]
@@ -120,6 +123,13 @@ impl Judge {
             }
         }
         self.put_rest(queue, output, row);
+        self.changed.clear();
+    }
+
+    /// A number of the row that the original has not.
+    pub fn put_added(&mut self, place: usize, number: i64) {
+        assert!(place >= at::FENCE);
+        self.row[place] = number;
     }
 
     pub fn put_cell(&mut self, address: usize, cell: Flat) {
@@ -275,6 +285,15 @@ impl Judge {
     /// `recover_from_exception` with its one cycle; none where the code is not 0 to 5.
     pub fn raise(&mut self, code: u64) -> Option<Raised> {
         self.changed.clear();
+        self.enter(code)
+    }
+
+    /// Code 0, in the step that has just been taken.
+    pub fn interrupt(&mut self) -> Raised {
+        self.enter(HARDWARE_INTERRUPT).expect("a code")
+    }
+
+    fn enter(&mut self, code: u64) -> Option<Raised> {
         let exception = exception(code, &self.computer.memory)?;
         if let Err(left) = self.computer.recover_from_exception(&exception) {
             return Some(Raised { stop: stop::NO_HANDLER, detail: left.code() as u64 });
@@ -481,6 +500,7 @@ const COMPLETED: Step = Step {
     entered: None,
     read_outside: false,
     fenced: false,
+    timed: false,
 };
 
 fn stopped(stop: u64, detail: u64) -> Step {

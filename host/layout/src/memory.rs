@@ -10,6 +10,8 @@ pub const SAVES: [u32; 3] = [INTERRUPT_PC_SAVE, INTERRUPT_SR_SAVE, INTERRUPT_EXC
 
 pub const SERIAL_STATUS_PORT: u32 = 110;
 pub const SERIAL_DATA_PORT: u32 = 111;
+pub const TIMER_INTERVAL_PORT: u32 = 120;
+pub const TIMER_REMAINING_PORT: u32 = 121;
 
 /// What the status port reads.
 pub const STATUS_INPUT_READY: i64 = 1;

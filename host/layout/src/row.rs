@@ -3,7 +3,7 @@
 use crate::cell::{self, Cell};
 
 /// Numbers in a row.
-pub const ROW: usize = 17;
+pub const ROW: usize = 20;
 
 pub type Row = [i64; ROW];
 
@@ -22,6 +22,9 @@ pub mod at {
     pub const QUEUE_COUNT: usize = 14;
     pub const OUTPUT_COUNT: usize = 15;
     pub const FENCE: usize = 16;
+    pub const TIMER_INTERVAL: usize = 17;
+    pub const TIMER_REMAINING: usize = 18;
+    pub const TIMER_MARK: usize = 19;
 }
 
 /// The console's marks.
@@ -30,8 +33,11 @@ pub const MARKS: [usize; 3] = [at::ENABLE, at::FLAG, at::PENDING];
 /// The console's numbers, the pending mark aside: two machines in user mode may differ here.
 pub const CONSOLE: [usize; 5] = [at::ENABLE, at::FLAG, at::QUEUE_START, at::QUEUE_COUNT, at::OUTPUT_COUNT];
 
+/// The timer's numbers.
+pub const TIMER: [usize; 3] = [at::TIMER_INTERVAL, at::TIMER_REMAINING, at::TIMER_MARK];
+
 /// What can be out of range, in checking order; sr is any word.
-pub const RANGED: [usize; 12] = [
+pub const RANGED: [usize; 15] = [
     at::A,
     at::B,
     at::PC,
@@ -44,6 +50,9 @@ pub const RANGED: [usize; 12] = [
     at::QUEUE_COUNT,
     at::OUTPUT_COUNT,
     at::FENCE,
+    at::TIMER_INTERVAL,
+    at::TIMER_REMAINING,
+    at::TIMER_MARK,
 ];
 
 /// The place as a refusal and the recorded list have it, from 1.

@@ -10,7 +10,8 @@ use z33::Library;
 /// About two million steps. `z33_run` looks at all 10,000 cells in each call, so that a step on a budget of 1 takes
 /// 20 to 40 µs with its comparison; all of it stays below two minutes on one core. The pairs are the judge's alone
 /// and have their number in host/check.
-pub const CHECK: Size = Size { singles: 750_000, programs: 1_600, pairs: 200, fenced: 100_000, loads: 160 };
+pub const CHECK: Size =
+    Size { singles: 750_000, programs: 1_600, pairs: 200, fenced: 100_000, timed: 150_000, loads: 160 };
 
 /// Every mode of the judge with `z33_run` on a budget of 1 for each step, and once more on each run's whole budget;
 /// then runs on large budgets.

@@ -3,7 +3,7 @@
 
 use compare::driver::Driver;
 use compare::rng::Rng;
-use compare::{fence, programs};
+use compare::{fence, programs, timer};
 use layout::stop::BUDGET_SPENT;
 use list::{Answer, Call, Case, Lent, Machine, Plain};
 use z33::Library;
@@ -19,8 +19,9 @@ pub fn check(seed: u64) -> Result<String, String> {
     let (mut rng, mut driver) = (Rng::new(seed), Driver::default());
     let (mut programs, mut steps, mut empty, mut ended) = (0, 0, 0, 0);
     for _ in 0..MOST_DRAWS {
-        // every other one with a fence
-        let mut case = if programs % 2 == 0 { programs::draw(&mut rng) } else { fence::program(&mut rng) };
+        // one in three with a fence, one with the timer
+        let draw = [programs::draw, fence::program, timer::program][programs % 3];
+        let mut case = draw(&mut rng);
         if programs >= PROGRAMS && ended > 0 {
             break;
         }

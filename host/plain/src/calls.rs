@@ -6,6 +6,7 @@ use layout::{Row, at, code, memory, refusal, reg, row, stop};
 use crate::cell::address_in;
 use crate::console::Console;
 use crate::machine::{MOST_CYCLES, Machine, State, enter};
+use crate::timer::Timer;
 
 pub struct Ran {
     pub stop: u64,
@@ -23,7 +24,8 @@ pub struct Raised {
 
 pub fn run(cells: &mut [i64], queue: &mut [u8], output: &mut [u8], row: &mut Row, budget: u64) -> Ran {
     let console = console_of(queue, output, row);
-    let mut machine = Machine { cells, console, state: state_of(row), empty: 0, closed: 0 };
+    let (timer, state) = (timer_of(row), state_of(row));
+    let mut machine = Machine { cells, console, timer, state, empty: 0, closed: 0 };
     let mut ran = Ran { stop: stop::BUDGET_SPENT, detail: 0, steps: 0, empty: 0 };
     while ran.steps < budget {
         match machine.step() {
@@ -37,6 +39,7 @@ pub fn run(cells: &mut [i64], queue: &mut [u8], output: &mut [u8], row: &mut Row
     }
     put_state(row, &machine.state);
     put_console(row, &machine.console);
+    put_timer(row, &machine.timer);
     ran
 }
 
@@ -114,6 +117,21 @@ fn put_state(row: &mut Row, state: &State) {
     row[at::SP] = state.sp.into();
     row[at::SR] = state.sr;
     row[at::CYCLES] = state.cycles as i64;
+}
+
+fn timer_of(row: &Row) -> Timer {
+    Timer {
+        interval: row[at::TIMER_INTERVAL] as u64,
+        remaining: row[at::TIMER_REMAINING] as u64,
+        mark: row[at::TIMER_MARK] == 1,
+        written: false,
+    }
+}
+
+fn put_timer(row: &mut Row, timer: &Timer) {
+    row[at::TIMER_INTERVAL] = timer.interval as i64;
+    row[at::TIMER_REMAINING] = timer.remaining as i64;
+    row[at::TIMER_MARK] = timer.mark.into();
 }
 
 fn console_of<'a>(queue: &'a mut [u8], output: &'a mut [u8], row: &Row) -> Console<'a> {

@@ -210,7 +210,7 @@ impl Machine<'_> {
     fn input(&mut self, x: Operand, y: Operand) -> Done {
         self.privileged()?;
         let port = self.address(x).ok_or(Fault::CellError)?;
-        let read = self.console.read(port);
+        let read = self.timer.read(port).unwrap_or_else(|| self.console.read(port));
         self.set(y.reg, word(read))
     }
 
@@ -222,6 +222,7 @@ impl Machine<'_> {
             return Err(Fault::OutputFull);
         }
         self.console.write(port, source);
+        self.timer.write(port, source);
         Ok(())
     }
 }

@@ -7,6 +7,7 @@ mod cell;
 mod console;
 mod instructions;
 mod machine;
+mod timer;
 
 pub use calls::{Raised, Ran, deliver, drain, raise, run, set_register};
 pub use cell::{cost, sound};

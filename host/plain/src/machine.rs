@@ -10,6 +10,7 @@ use layout::{mode, reg, stop};
 
 use crate::cell::{Operand, address_in, cost, decode};
 use crate::console::Console;
+use crate::timer::Timer;
 
 pub const MOST_CYCLES: u64 = CYCLES_MOST as u64;
 /// A step adds at most this: an instruction's cost of 2 and one for an entry.
@@ -30,6 +31,7 @@ pub enum Fault {
 pub struct Machine<'a> {
     pub cells: &'a mut [i64],
     pub console: Console<'a>,
+    pub timer: Timer,
     pub state: State,
     /// Words that this step took from empty cells.
     pub empty: u64,
@@ -62,7 +64,7 @@ impl Machine<'_> {
 
     /// Takes the step and puts everything back where it passed the limit.
     fn step_near_the_limit(&mut self) -> Result<(), Stop> {
-        let (cells, state) = (self.cells.to_vec(), self.state);
+        let (cells, state, timer) = (self.cells.to_vec(), self.state, self.timer);
         let Console { enable, flag, pending, start, count, written, .. } = self.console;
         let output = self.console.output.to_vec();
         let result = self.step_with_room();
@@ -71,6 +73,7 @@ impl Machine<'_> {
         }
         self.cells.copy_from_slice(&cells);
         self.state = state;
+        self.timer = timer;
         self.console.output.copy_from_slice(&output);
         let console = &mut self.console;
         (console.enable, console.flag, console.pending) = (enable, flag, pending);
@@ -81,12 +84,18 @@ impl Machine<'_> {
     fn step_with_room(&mut self) -> Result<(), Stop> {
         let pc = self.state.pc;
         self.closed = if self.has(SUPERVISOR) { 0 } else { self.state.fence };
+        self.timer.written = false;
         match self.attempt() {
             Ok(spent) => {
                 self.state.cycles += spent;
+                self.timer.pass(spent);
                 self.poll()
             }
-            Err(Fault::Code(code)) => self.enter(code),
+            Err(Fault::Code(code)) => {
+                self.enter(code)?;
+                self.timer.pass(1);
+                Ok(())
+            }
             Err(Fault::Reset) => Err((stop::RESET, 0)),
             Err(Fault::CellError) => Err((stop::CELL_ERROR, 0)),
             Err(Fault::Extract) => Err((stop::EXTRACT, 0)),
@@ -110,10 +119,10 @@ impl Machine<'_> {
         Ok(cost(decoded.op, decoded.x.mode, decoded.y.mode))
     }
 
-    /// If I is set, the pending mark is taken and, if it was set, code 0 is entered.
+    /// If I is set, the console's pending mark or otherwise the timer's mark is taken and, if it was set, code 0 is entered.
     fn poll(&mut self) -> Result<(), Stop> {
-        if self.has(INTERRUPT_ENABLE) && self.console.pending {
-            self.console.pending = false;
+        let mark = if self.console.pending { &mut self.console.pending } else { &mut self.timer.mark };
+        if self.state.sr & INTERRUPT_ENABLE != 0 && std::mem::take(mark) {
             return self.enter(HARDWARE_INTERRUPT);
         }
         Ok(())

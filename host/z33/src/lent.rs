@@ -1,7 +1,8 @@
 //! The eight calls over buffers that the caller owns: slices, or anything that lends one, as `&mut Vec` does.
 //!
-//! Cells are three numbers each (tag, first, second). The row is 17 numbers: a and b (three each), pc, sp, sr, cycles, the console's
-//! enable, flag and pending, queue start, queue count, output count, and the fence. Any length and content is answered.
+//! Cells are three numbers each (tag, first, second). The row is 20 numbers: a and b (three each), pc, sp, sr, cycles, the console's
+//! enable, flag and pending, queue start, queue count, output count, the fence, and the timer's interval, remaining and mark. Any length and
+//! content is answered.
 //!
 //! ```
 //! let (mut cells, mut row) = (vec![0; 3 * 256], vec![0; z33::ROW_LENGTH]);

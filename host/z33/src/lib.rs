@@ -1,5 +1,5 @@
 //! The Z33, a processor made for teaching, as it is proved in this repository: up to 10,000 cells, five registers, 33 instructions,
-//! exceptions through cell 200 and a serial console. docs/MANUAL.md describes the machine and the numbers of its instructions.
+//! exceptions through cell 200, a serial console and a timer. docs/MANUAL.md describes the machine and the numbers of its instructions.
 //!
 //! [`Machine`] owns its memory and is what most programs want; [`lent`] has the same calls over buffers of one's own.
 //!
@@ -43,6 +43,7 @@ mod machine;
 mod refusal;
 mod register;
 mod stop;
+mod timer;
 
 pub use cell::Cell;
 pub use exception::Exception;
@@ -52,3 +53,4 @@ pub use machine::Machine;
 pub use refusal::Refusal;
 pub use register::Register;
 pub use stop::{Ran, Stop};
+pub use timer::Timer;

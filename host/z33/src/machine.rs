@@ -1,6 +1,6 @@
 use layout::{Row, at, cell, limit, row};
 
-use crate::{Cell, Exception, ROW_LENGTH, Ran, Refusal, Register, Stop, lent};
+use crate::{Cell, Exception, ROW_LENGTH, Ran, Refusal, Register, Stop, Timer, lent};
 
 /// More cells, or bytes, than any machine has: enough to be refused.
 const TOO_MANY: usize = limit::OUTPUT_MOST + 1;
@@ -125,6 +125,15 @@ impl Machine {
             self.row[at::FENCE] = before;
         }
         tested.map(drop)
+    }
+
+    /// The timer as it is.
+    pub fn timer(&self) -> Timer {
+        Timer {
+            interval: self.row[at::TIMER_INTERVAL] as u64,
+            remaining: self.row[at::TIMER_REMAINING] as u64,
+            mark: self.row[at::TIMER_MARK] == 1,
+        }
     }
 
     /// The cycles so far.

@@ -11,7 +11,7 @@ pub enum Refusal {
     Queue,
     /// 3: the output record is over 65,536 bytes.
     Output,
-    /// 4: the row is not 17 long (place 0), or its number at this place, from 1, is out of its range.
+    /// 4: the row is not 20 long (place 0), or its number at this place, from 1, is out of its range.
     Row {
         /// The lowest such place, or 0.
         place: u64,

@@ -1,7 +1,7 @@
 //! The wrapper: what each call answers, each refusal and stop by its name and as it prints, and buffers as `Vec` and slices.
 
 use layout::{at, row};
-use z33::{Cell, Exception, Machine, ROW_LENGTH, Ran, Refusal, Register, SUPERVISOR, Stop, lent};
+use z33::{Cell, Exception, Machine, ROW_LENGTH, Ran, Refusal, Register, SUPERVISOR, Stop, Timer, lent};
 
 const RESET: Cell = Cell::Instruction { tag: 20702, first: 0, second: 0 };
 const NOP: Cell = Cell::Instruction { tag: 15302, first: 0, second: 0 };
@@ -51,7 +51,7 @@ fn each_refusal_has_its_number_and_words() {
         ),
         (lent::deliver(&mut [], &mut row, &[]), 2, "the queue is not 1 to 4,096 bytes"),
         (lent::drain(&[0; 65_537], &mut row, &mut []).map(drop), 3, "the output record is over 65,536 bytes"),
-        (lent::set_register(&mut row[1..], Register::A, 0), 4, "the row is not 17 numbers"),
+        (lent::set_register(&mut row[1..], Register::A, 0), 4, "the row is not 20 numbers"),
         (lent::set_register(&mut damaged, Register::A, 0), 4, "the row's number 1 is out of its range"),
         (lent::read_cell(&[[-1, 0, 0]; 256].concat(), 7).map(drop), 5, "the cell at 7 is damaged"),
         (m.deliver(b"12345"), 6, "more bytes than the queue has free places"),
@@ -209,6 +209,23 @@ fn the_fence_keeps_cells_from_user_mode() {
         assert_eq!(m.set_fence(fence), Err(Refusal::Row { place: 17 }));
         assert_eq!(m.fence(), 2048);
     }
+}
+
+#[test]
+fn the_timer_interrupts_user_mode() {
+    // out 3,[120]; ld 256,%sr: user mode with I; jmp 2
+    let mut m = machine(&[one(18227, 3, 120), one(12806, 256, 0), one(6452, 2, 0)]);
+    m.load(200, &[NOP]).unwrap();
+    assert_eq!(m.timer(), Timer::default());
+    assert_eq!(m.run(1).unwrap().steps, 1);
+    assert_eq!(m.timer(), Timer { interval: 3, remaining: 3, mark: false });
+    assert_eq!(m.run(2).unwrap().steps, 2);
+    assert_eq!(m.timer(), Timer { interval: 3, remaining: 1, mark: false });
+    assert_eq!(m.run(1).unwrap().steps, 1);
+    assert_eq!(m.timer(), Timer { interval: 3, remaining: 3, mark: false });
+    assert_eq!((m.register(Register::Pc), m.cell(102)), (Cell::Word(200), Ok(Cell::Word(0))));
+    m.raise(Exception::Trap).unwrap();
+    assert_eq!(m.timer().remaining, 3);
 }
 
 #[test]

@@ -17,7 +17,7 @@ const LEFT: [(Reason, usize); 4] =
 
 /// Forms by outcome, in the order of `OUTCOMES`, of steps that took a word from an empty cell.
 const AFTER: [usize; OUTCOMES.len()] =
-    [108, 108, 5, 10, 40, 0, 27, 108, 5, 10, 40, 0, 27, 0, 10, 58, 20, 20, 6, 4, 108];
+    [108, 108, 5, 10, 40, 0, 27, 108, 5, 10, 40, 0, 27, 0, 10, 58, 21, 21, 6, 4, 108];
 
 type Counts<T> = BTreeMap<(usize, T), u64>;
 

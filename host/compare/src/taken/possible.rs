@@ -107,7 +107,9 @@ pub fn comes_with(form: Form, outcome: Outcome) -> bool {
         }
         Stopped(stop::INVALID_REGISTER, register) => {
             let result = two_words && !matches!(op, AND | CMP | SHR) && based(m1);
-            carries || result && register != SR as u64
+            // the timer's ports
+            let read = op == IN && m1 == IDX;
+            carries || (result || read) && register != SR as u64
         }
         Stopped(stop::OUTPUT_FULL, _) => op == OUT && (m1 == REG || m2 == IDX),
         _ => false,

@@ -32,6 +32,18 @@ pub fn written(row: &Row, cells: &[i64], fetched: Cell) -> Option<i64> {
     trace(row, cells, fetched).written
 }
 
+/// The port that `in` or `out` comes to, and the word that `out` brings.
+#[derive(Clone, Copy, Debug, PartialEq, Eq)]
+pub struct Port {
+    pub port: i64,
+    pub word: Option<i64>,
+}
+
+/// What port that step uses.
+pub fn port(row: &Row, cells: &[i64], fetched: Cell) -> Option<Port> {
+    trace(row, cells, fetched).port
+}
+
 /// No write below here; S is that of the step's beginning.
 fn closed(row: &Row) -> i64 {
     if row[at::SR] & SUPERVISOR == 0 { row[at::FENCE] } else { 0 }
@@ -46,6 +58,7 @@ fn trace<'a>(row: &Row, cells: &'a [i64], [tag, first, second]: Cell) -> Trace<'
         pushed: None,
         written: None,
         at_fence: None,
+        port: None,
         why_not: None,
         events: Vec::new(),
     };
@@ -65,6 +78,7 @@ struct Trace<'a> {
     written: Option<i64>,
     /// The registers where the fence stopped it.
     at_fence: Option<Row>,
+    port: Option<Port>,
     /// Why no more words are taken.
     why_not: Option<Reason>,
     events: Vec<Event>,
@@ -90,12 +104,14 @@ impl Trace<'_> {
             FAS => self.fas(x, y.1),
             IN => {
                 self.privileged();
-                self.address(Base, x);
+                let port = self.address(Base, x);
+                self.use_port(port, None);
             }
             OUT => {
                 self.privileged();
-                self.word(x);
-                self.address(Base, y);
+                let word = self.word(x);
+                let port = self.address(Base, y);
+                self.use_port(port, word);
             }
             NEG | NOT => {
                 self.word(x);
@@ -204,9 +220,14 @@ impl Trace<'_> {
         }
     }
 
-    fn word(&mut self, x: Operand) {
-        if let Some(cell) = self.cell(x) {
-            self.take(if x.0 == REG { Way::Operand } else { Memory }, cell);
+    fn word(&mut self, x: Operand) -> Option<i64> {
+        let cell = self.cell(x)?;
+        self.take(if x.0 == REG { Way::Operand } else { Memory }, cell)
+    }
+
+    fn use_port(&mut self, port: Option<i64>, word: Option<i64>) {
+        if self.why_not.is_none() {
+            self.port = port.map(|port| Port { port, word });
         }
     }
 
