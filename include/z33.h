@@ -155,7 +155,8 @@ typedef struct { uint64_t refusal, place, stop, detail; } z33_raised; /* stop 0:
 z33_done z33_fresh(int64_t *cells, size_t cells_len, int64_t *row, size_t row_len);
 
 /* Takes steps until one does not complete (stop 1 to 7) or budget of them have (stop 0). An empty cell, in memory or in a or b, reads as
- * word 0; empty tells how often the completed steps took such a word, each time that one did, and stops at 2^64 - 1. */
+ * word 0; empty tells how often the completed steps took such a word, each time that one did, and stops at 2^64 - 1. A run
+ * may be paused: one on m steps that ends with stop 0, then one on n, leave and answer what one on m + n does, steps and empty summed. */
 z33_ran z33_run(int64_t *cells, size_t cells_len, uint8_t *queue, size_t queue_len,
                 uint8_t *output, size_t output_len, int64_t *row, size_t row_len, uint64_t budget);
 

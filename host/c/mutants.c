@@ -40,6 +40,7 @@ enum {
     NO_CYCLES,                /* run: cycles are not added */
     DETAIL_OF_STOP_5,         /* run: stop 5 without its register */
     POLL_AFTER_EXCEPTION,     /* run: an exception step polls */
+    POLL_AT_START,            /* run: it polls before its first step too */
     MARK_WITH_I_CLEAR,        /* run: the pending mark is taken with I clear */
     SP_UNDONE,                /* run: a stop 5 puts sp back */
     OUTSIDE_STOPS,            /* run: ld of a cell outside is still stop 4 */
@@ -50,6 +51,7 @@ enum {
     EMPTY_CARRIED,            /* run: an empty cell that ld carries counts */
     EMPTY_ONCE,               /* run: swap's address counts once */
     EMPTY_BEFORE_ENTRY,       /* run: what a step took before an exception does not count */
+    EMPTY_STARTS_AGAIN,       /* run: the count of empty cells starts again behind the first step */
     FENCE_LESS_ONE,           /* run: the cell just below the fence may be written */
     FENCE_MORE_ONE,           /* run: the cell on the fence may not be written */
     FENCE_ALL,                /* run: the supervisor is fenced too */
@@ -309,6 +311,17 @@ z33_ran z33_run(int64_t *cells, size_t cells_len, uint8_t *queue, size_t queue_l
     if (ran.refusal == 0 && budget == 1 && (read_otherwise(cells, cells_len, row, &ran) || fenced_otherwise(form, cells, cells_len, row, &ran))) {
         return ran;
     }
+    if (MUTANT == POLL_AT_START && ran.refusal == 0 && budget > 0 && (row[SR] & I) && row[PENDING]) {
+        row[PENDING] = 0;
+        whole_z33_raise(cells, cells_len, row, ROW, 0);
+    }
+    uint64_t first = MUTANT == EMPTY_STARTS_AGAIN && ran.refusal == 0 && budget > 1;
+    if (first > 0) {
+        ran = whole_z33_run(cells, cells_len, queue, queue_len, output, output_len, row, row_len, first);
+        if (ran.stop != 0) {
+            return ran;
+        }
+    }
     int64_t instruction[3] = {0}, saved[3] = {0};
     if (ran.refusal == 0) {
         memcpy(instruction, cells + (form < 0 ? 0 : 3 * before[PC]), sizeof instruction);
@@ -318,7 +331,8 @@ z33_ran z33_run(int64_t *cells, size_t cells_len, uint8_t *queue, size_t queue_l
         row[FENCE]--;
     }
     int otherwise = ran.refusal == 0 && budget == 1 ? polls_otherwise(row) : 0;
-    ran = whole_z33_run(cells, cells_len, queue, queue_len, output, output_len, row, row_len, other_budget(budget));
+    ran = whole_z33_run(cells, cells_len, queue, queue_len, output, output_len, row, row_len, other_budget(budget) - first);
+    ran.steps += first;
     if (ran.refusal == 0) {
         row[FENCE] = before[FENCE];
         row[otherwise ? otherwise : FENCE] = before[otherwise ? otherwise : FENCE];

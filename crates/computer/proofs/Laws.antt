@@ -21,8 +21,9 @@ use Rattle.definition.specs.Runtime as M
 use Rattle.definition.specs.Runtime.{Machine, with-core, with-cycles, with-mark, uncounted, Executed, Run, runs}
 use Rattle.definition.specs.Accepted.{AcceptedMachine}
 use Rattle.definition.proofs.Step.{limit-below}
-use Rattle.definition.proofs.Total.{total-plain, total-zero, total-assoc}
+use Rattle.definition.proofs.Total.{total-plain, total-assoc}
 use Rattle.definition.proofs.Accepted.{OutcomeHas, Stepped, step-accepted, uncounted-in, run-most}
+use Rattle.definition.proofs.Budgets.{later-zero}
 use Rattle.memory.proofs.Laws.{over-none}
 use Rattle.registers.specs.Meaning.{result, settled}
 use Rattle.stores.specs.declared.Made.{Made}
@@ -177,12 +178,7 @@ pub total-none : (t : ℕ) → t ≤ TOTAL-MOST → t ≡ total t 0
 total-none t h = let z : t ≡ t + 0 = omega arith in z ∙ sym (total-plain t 0 (omega arith))
 
 pub run-start : (b : ℕ) (m : Machine) → M.later 0 0 (M.run (b - 0) m) ≡ M.run b m
-unfolding M.later
-run-start b m =
-    let e : b - 0 ≡ b = omega arith in
-    let r = M.run b m in
-    let z : 0 + r .steps ≡ r .steps = omega arith in
-    ap (λ (x : ℕ). M.later 0 0 (M.run x m)) e ∙ (λ i. runs (r .stop) (r .detail) (z i) (total-zero (r .empty) (run-most b m) i) (r .left))
+run-start b m = let e : b - 0 ≡ b = omega arith in ap (λ (x : ℕ). M.later 0 0 (M.run x m)) e ∙ later-zero (M.run b m) (run-most b m)
 
 -- after k of b steps, which took t words of empty cells
 module _ (k b t : ℕ) (m m' : Machine) (n d : ℕ) (h : k < b) where

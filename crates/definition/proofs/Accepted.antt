@@ -1,6 +1,5 @@
--- A run of an accepted machine leaves an accepted machine, in either mode; its steps, its stop, and budgets that pass through one another.
+-- A run of an accepted machine leaves an accepted machine, in either mode; its steps and its stop.
 use mathlib.Core.Path.{_≡_, refl, sym, ap, _∙_, subst}
-use mathlib.Core.Logic.{_≢_}
 use mathlib.Core.Bool.{Bool, true, false, cond, _&&_}
 use Prim.Native.Nat.{ℕ, zero, suc, _+_, _-_, _<_, _≤_}
 use native.Mathlib.Omega.{arith}
@@ -13,20 +12,20 @@ use Rattle.definition.specs.declared.Error.{Error}
 use Rattle.definition.specs.declared.Error.the-variants.{DivByZero, InvalidInstruction, PrivilegedInstruction, Trap, InvalidMemoryAccess, CellError, Extract, InvalidPc, InvalidSp, InvalidSr, Reset}
 use Rattle.definition.specs.declared.Ran.{Ran}
 use Rattle.definition.specs.Constants.{CYCLES-END}
-use Rattle.definition.specs.Total.{TOTAL-MOST, total}
+use Rattle.definition.specs.Total.{TOTAL-MOST}
 use Rattle.definition.specs.Exception.{stop, ending, HARDWARE-INTERRUPT, NO-HANDLER, OUTPUT-FULL, CYCLES-FULL}
 use Rattle.definition.specs.Memory.{word}
 use Rattle.definition.specs.Registers.{interruptEnable}
 use Rattle.definition.specs.Io.{Console, with-marks, inputReady, status, readStatus, writeControl, around, readData, readPort, writeData, writePort, outputFull}
 use Rattle.definition.specs.Exec.{Core, Res, ok, err}
 use Rattle.definition.specs.Instructions.{Request, nothing, reads, writes, setRegister}
-use Rattle.definition.specs.Runtime.{Machine, with-core, with-cycles, with-console, with-mark, Executed, attempt, Turn, completes, enters, stops, ends, poll, conclude, serve, afterAttempt, guard, turn, Outcome, completed, stopped, hasHandler, entered, recover, settle, reached, limit, step, Run, runs, uncounted, later, goOn, run}
+use Rattle.definition.specs.Runtime.{Machine, with-core, with-cycles, with-console, with-mark, Executed, attempt, Turn, completes, enters, stops, ends, poll, conclude, serve, afterAttempt, guard, turn, Outcome, completed, stopped, hasHandler, entered, recover, settle, reached, limit, step, Run, uncounted, later, goOn, run}
 use Rattle.definition.specs.Calls.{Lent, lentMachine, lentOf, Called, passes, runCheck, ran, runRefused, runCall}
 use Rattle.definition.specs.UserMode.{Accepted}
-use Rattle.definition.specs.Accepted.{Sound, AcceptedCore, ConsoleIn, AcceptedMachine, laterCall, RunsAccepted}
+use Rattle.definition.specs.Accepted.{Sound, AcceptedCore, ConsoleIn, AcceptedMachine, RunsAccepted}
 -- Not cited: the table is proved first, so that a wrong rule is refused at a row that shows it.
 use Rattle.definition.proofs.Course.{course}
-use Rattle.definition.proofs.Total.{total-most, total-zero, total-assoc}
+use Rattle.definition.proofs.Total.{total-most}
 use Rattle.definition.proofs.Keeps.{Good, k-set, attempt-keeps}
 use Rattle.definition.proofs.AcceptedCore.{any-laws, word-sound}
 use Rattle.definition.proofs.UserStep.{entered-accepted}
@@ -227,61 +226,6 @@ unfolding run
 run-most zero m = omega arith
 run-most (suc n) m = go-on-most (step m) (run n)
 
-later-zero : (r : Run) → r .empty ≤ TOTAL-MOST → later 0 0 r ≡ r
-unfolding later
-later-zero r h =
-    let e : 0 + r .steps ≡ r .steps = omega arith in
-    λ i. runs (r .stop) (r .detail) (e i) (total-zero (r .empty) h i) (r .left)
-
-later-suc : (n t u : ℕ) (r : Run) → later 1 t (later n u r) ≡ later (suc n) (total t u) r
-unfolding later
-later-suc n t u r =
-    let e : 1 + (n + r .steps) ≡ suc n + r .steps = omega arith in
-    λ i. runs (r .stop) (r .detail) (e i) (total-assoc t u (r .empty) i) (r .left)
-
--- what a run's parts are behind a step
-later-stop : (t : ℕ) (r : Run) → later 1 t r .stop ≡ r .stop
-unfolding later
-later-stop t r = refl
-
-later-left : (t : ℕ) (r : Run) → later 1 t r .left ≡ r .left
-unfolding later
-later-left t r = refl
-
-later-empty : (t : ℕ) (r : Run) → later 1 t r .empty ≡ total t (r .empty)
-unfolding later
-later-empty t r = refl
-
--- a budget passes through the machine of each smaller one
-go-on-through : (n b k : ℕ) (o : Outcome) → OutcomeHas Stepped o → ((m : Machine) → AcceptedMachine m → run n m .stop ≡ 0 → run b m ≡ later n (run n m .empty) (run k (run n m .left))) → goOn o (run n) .stop ≡ 0 → goOn o (run b) ≡ later (suc n) (goOn o (run n) .empty) (run k (goOn o (run n) .left))
-unfolding goOn
-go-on-through n b k (completed m) a ih e =
-    let t = m .core .regs .empties in
-    let r = run n (uncounted m) in
-    ap (later 1 t) (ih (uncounted m) (uncounted-in m a) (sym (later-stop t r) ∙ e)) ∙ later-suc n t (r .empty) _ ∙ sym (λ i. later (suc n) (later-empty t r i) (run k (later-left t r i)))
-go-on-through n b k (stopped s d m) a ih e = let l = a .0 in absurd (omega arith)
-
-pub run-through : (n k b : ℕ) → n + k ≡ b → (m : Machine) → AcceptedMachine m → run n m .stop ≡ 0 → run b m ≡ later n (run n m .empty) (run k (run n m .left))
-unfolding run
-run-through zero k b h m a e = let q : b ≡ k = omega arith in ap (λ (x : ℕ). run x m) q ∙ sym (later-zero (run k m) (run-most k m))
-run-through (suc n) k zero h m a e = absurd (omega arith)
-run-through (suc n) k (suc b) h m a e =
-    go-on-through n b k (step m) (step-accepted m a) (λ m' a' e'. run-through n k b (omega arith) m' a' e') e
-
-go-on-ended : (n b : ℕ) (o : Outcome) → OutcomeHas Stepped o → ((m : Machine) → AcceptedMachine m → run n m .stop ≢ 0 → run b m ≡ run n m) → goOn o (run n) .stop ≢ 0 → goOn o (run b) ≡ goOn o (run n)
-unfolding goOn
-go-on-ended n b (completed m) a ih e =
-    let t = m .core .regs .empties in
-    ap (later 1 t) (ih (uncounted m) (uncounted-in m a) (λ z. e (later-stop t (run n (uncounted m)) ∙ z)))
-go-on-ended n b (stopped s d m) a ih e = refl
-
-pub run-ended : (n k b : ℕ) → n + k ≡ b → (m : Machine) → AcceptedMachine m → run n m .stop ≢ 0 → run b m ≡ run n m
-unfolding run
-run-ended zero k b h m a e = absurd (e refl)
-run-ended (suc n) k zero h m a e = absurd (omega arith)
-run-ended (suc n) k (suc b) h m a e =
-    go-on-ended n b (step m) (step-accepted m a) (λ m' a' e'. run-ended n k b (omega arith) m' a' e') e
-
 -- ---- the calls
 
 -- a call of run on what an accepted machine is written to
@@ -296,11 +240,6 @@ ran-left : (r : Run) → ran r .left ≡ lentOf (r .left)
 unfolding ran
 ran-left r = refl
 
--- a run behind another that spent its budget
-later-ran : (n : ℕ) (q r : Run) → q .steps ≡ n → ran (later n (q .empty) r) ≡ laterCall (ran q .answer) (ran r)
-unfolding ran later
-later-ran n q r e = ap (λ (x : ℕ). ran (later x (q .empty) r)) (sym e)
-
 pub runs-accepted : RunsAccepted
 unfolding ran
 runs-accepted b l h =
@@ -313,12 +252,4 @@ runs-accepted b l h =
       within = subst (λ (x : Called Ran Lent). x .answer .steps ≤ b) (sym c) (r .within);
       spent = λ e. ap (λ (x : Called Ran Lent). x .answer .steps) c ∙ r .spent (sym (ap (λ (x : Called Ran Lent). x .answer .stop) c) ∙ e);
       whole = λ e. ap (λ (x : Called Ran Lent). x .answer .stop) c ∙ r .whole (sym (ap (λ (x : Called Ran Lent). x .answer .steps) c) ∙ e);
-      through = λ n k q e.
-          (let d = call-is n l h in
-          let s : run n m .stop ≡ 0 = sym (ap (λ (x : Called Ran Lent). x .answer .stop) d) ∙ e in
-          let z = run-ends n m a in
-          c ∙ ap ran (run-through n k b q m a s) ∙ later-ran n (run n m) (run k (run n m .left)) (z .spent s) ∙ ap (laterCall (ran (run n m) .answer)) (sym (call-on k (run n m .left) (z .left-in))) ∙ sym (ap (λ (x : Called Ran Lent). laterCall (x .answer) (runCall k (x .left))) d));
-      ended = λ n k q e.
-          (let d = call-is n l h in
-          c ∙ ap ran (run-ended n k b q m a (λ z. e (ap (λ (x : Called Ran Lent). x .answer .stop) d ∙ z))) ∙ sym d);
     }

@@ -17,4 +17,4 @@ use Rattle.definition.specs.Course.{Course, table, cellsOf, lentCase, sh
 -- Every definition is opened, and the table runs.
 pub course : Course
 unfolding wrap isWord wrapped addressOf quotient isShift shlW shrW andW orW xorW notW bit putBit lowByte total ending wordAt extractWord asAddress extractAddress isInstruction cellAt putCell found get regAt counted supervisor interruptEnable getReg putPc putSp putSr putReg operand modeCost indexed resolve resolved readThere cellThere extractCell opAt allows signature legal sumBelow cost decode instructionAt extractInstruction registerFits isAddress numberFits soundInstruction soundAt sound inputReady status readStatus writeControl around readData readPort writeData writePort outputFull delivered putBytes firstFree drained andThen branch orWord orAddress orCell orGiven orPut permits write checkPrivileged below push pop andFlags putResult putWrapped putCompared putQuotient putShifted words neg notOp jump jumpIf call rtn popOp pushOp ld st fas swapBack swap rti reset quiet inOp outOp execute orInstruction fetch attempt ends poll conclude serve afterAttempt guard turn hasHandler saved enteredSr enteredRegisters enteredCore entered recover settle reached limit step later goOn run machineOf rowOf verdict isBelow isMark lowestDamaged cellsTest queueTest outputTest lengthTest rowTests damageTest freshCheck fresh runCheck ran runRefused runCall deliverCheck deliveredRow deliver drainCheck drain readCheck readCell loadCheck loaded load isSettable setRegisterCheck withRegister setRegister raiseCheck raised raise calls answers lentSupervisor table cellsOf lentCase shown Shows
-course = (refl, (refl, (refl, (refl, (refl, (refl, (refl, (refl, (refl, (refl, (refl, (refl, (refl, (refl, (refl, (refl, (refl, (refl, (refl, (refl, (refl, (refl, (refl, (refl, (refl, (refl, (refl, (refl, (refl, (refl, (refl, (refl, (refl, (refl, (refl, (refl, (refl, (refl, (refl, (refl, (refl, (refl, (refl, (refl, (refl, tt)))))))))))))))))))))))))))))))))))))))))))))
+course = (refl, (refl, (refl, (refl, (refl, (refl, (refl, (refl, (refl, (refl, (refl, (refl, (refl, (refl, (refl, (refl, (refl, (refl, (refl, (refl, (refl, (refl, (refl, (refl, (refl, (refl, (refl, (refl, (refl, (refl, (refl, (refl, (refl, (refl, (refl, (refl, (refl, (refl, (refl, (refl, (refl, (refl, (refl, (refl, (refl, (refl, tt))))))))))))))))))))))))))))))))))))))))))))))

@@ -147,15 +147,15 @@ step-user m u s = ends-user m (step m) (step-ends m u) s
 
 -- ---- a run
 
-held-uncounted : (m w : Machine) → Held m w → Held m (uncounted w)
+pub held-uncounted : (m w : Machine) → Held m w → Held m (uncounted w)
 unfolding supervisor
 held-uncounted m w h = record { fence = h .fence; size = h .size; others = h .others; clear = h .clear }
 
-clear-uncounted : (m : Machine) → supervisor (uncounted m .core .regs) ≡ false → supervisor (m .core .regs) ≡ false
+pub clear-uncounted : (m : Machine) → supervisor (uncounted m .core .regs) ≡ false → supervisor (m .core .regs) ≡ false
 unfolding supervisor
 clear-uncounted m s = s
 
-user-uncounted : (m : Machine) → InUser m → InUser (uncounted m)
+pub user-uncounted : (m : Machine) → InUser m → InUser (uncounted m)
 user-uncounted m u = user-laws 0 (m .fence) .to-empties (m .core) u 0
 
 -- a step and then a run on b, whose first step, if there is one, is begun with S clear

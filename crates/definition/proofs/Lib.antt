@@ -16,3 +16,5 @@ pub mod Row
 pub mod Accepted
 pub mod Refused
 pub mod UserMode
+pub mod Fence
+pub mod Budgets

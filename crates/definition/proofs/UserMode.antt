@@ -38,7 +38,7 @@ left-zero m = refl
 zero-call : (m : Machine) → AcceptedMachine m → runCall 0 (lentOf m) .left ≡ lentOf m
 zero-call m a = call-left 0 m a ∙ ap lentOf (left-zero m)
 
-lent-supervisor : (m : Machine) → lentSupervisor (lentOf m) ≡ supervisor (m .core .regs)
+pub lent-supervisor : (m : Machine) → lentSupervisor (lentOf m) ≡ supervisor (m .core .regs)
 unfolding lentSupervisor supervisor rowOf
 lent-supervisor m = refl
 
@@ -60,7 +60,7 @@ zeros-answers (one {ns} z) m₁ m₂ a₁ a₂ =
 
 -- ---- the list's condition
 
-rest-of : (n : ℕ) (ns : List ℕ) (l : Lent) → GoesNoFurther (n ∷ ns) l → GoesNoFurther ns (runCall n l .left)
+pub rest-of : (n : ℕ) (ns : List ℕ) (l : Lent) → GoesNoFurther (n ∷ ns) l → GoesNoFurther ns (runCall n l .left)
 unfolding calls
 rest-of n ns l f = λ before b after e k h. f (n ∷ before) b after (ap (λ (x : List ℕ). n ∷ x) e) k h
 

@@ -4,20 +4,18 @@ use mathlib.Core.Path.{_≡_}
 use mathlib.Core.Logic.{_≢_}
 use mathlib.Core.Bool.{true}
 use mathlib.Core.List.{List}
-use Prim.Native.Nat.{ℕ, suc, _+_, _*_, _%_, _^_, _<_, _≤_}
+use Prim.Native.Nat.{ℕ, suc, _*_, _%_, _^_, _<_, _≤_}
 use lib.IntN.{ℤ, pos, natAbs}
 use lib.ListN.{length}
 use Rattle.definition.specs.declared.Cell.{Cell}
-use Rattle.definition.specs.declared.Ran.{Ran}
 use Rattle.definition.specs.Constants.{CELLS-LEAST, CELLS-MOST, QUEUE-MOST, OUTPUT-MOST, CYCLES-END, ROW, ROW-A, ROW-B, ROW-PC, ROW-SP, ROW-CYCLES, ROW-ENABLE, ROW-FLAG, ROW-PENDING, ROW-START, ROW-COUNT, ROW-WRITTEN, ROW-FENCE}
 use Rattle.definition.specs.Word.{eqZ}
-use Rattle.definition.specs.Total.{total}
 use Rattle.definition.specs.Memory.{cellCount, cellAt}
 use Rattle.definition.specs.Encoding.{sound}
 use Rattle.definition.specs.Io.{Console}
 use Rattle.definition.specs.Exec.{Core}
 use Rattle.definition.specs.Runtime.{Machine}
-use Rattle.definition.specs.Calls.{at, cellOfRow, mark, lowestDamaged, Lent, done, Called, called, answer, runCall, fresh, deliver, drain, load, setRegister, raise}
+use Rattle.definition.specs.Calls.{at, cellOfRow, mark, lowestDamaged, Lent, runCall, fresh, deliver, drain, load, setRegister, raise}
 use Rattle.definition.specs.UserMode.{Accepted}
 
 -- ---- an accepted machine: what the tests of run say, as facts
@@ -99,11 +97,6 @@ pub record AcceptedMachine (m : Machine) : Type 0 where
 
 -- ---- calls of run
 
--- A call of run behind another, which answered a: the counts are summed.
-abbrev pub laterCall : Ran → Called Ran Lent → Called Ran Lent
-laterCall a c =
-    called (answer (done (c .answer .refusal) (c .answer .place)) (c .answer .stop) (c .answer .detail) (a .steps + c .answer .steps) (total (a .empty) (c .answer .empty))) (c .left)
-
 pub record RunLaws (budget : ℕ) (l : Lent) : Type 0 where
   -- A run of an accepted machine leaves an accepted machine.
   pub stays : Accepted (runCall budget l .left)
@@ -112,9 +105,6 @@ pub record RunLaws (budget : ℕ) (l : Lent) : Type 0 where
   -- "0 is given exactly when steps equals the budget"
   pub spent : runCall budget l .answer .stop ≡ 0 → runCall budget l .answer .steps ≡ budget
   pub whole : runCall budget l .answer .steps ≡ budget → runCall budget l .answer .stop ≡ 0
-  -- "A run on a larger budget passes through the machine that each smaller one leaves."
-  pub through : (n k : ℕ) → n + k ≡ budget → runCall n l .answer .stop ≡ 0 → runCall budget l ≡ laterCall (runCall n l .answer) (runCall k (runCall n l .left))
-  pub ended : (n k : ℕ) → n + k ≡ budget → runCall n l .answer .stop ≢ 0 → runCall budget l ≡ runCall n l
 
 abbrev pub RunsAccepted : Type 0
 RunsAccepted = (budget : ℕ) (l : Lent) → Accepted l → RunLaws budget l

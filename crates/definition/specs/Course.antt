@@ -234,8 +234,9 @@ table =
     -- "in a step begun with S clear": not with S set, nor where swap [30],%sr clears it before it writes
     ∷ gives (fenced (pos 512) 31 st30 30) (done 0 0 1 (pos 1) (pos 31) (pos 512) (pos 2) (word (pos 7)) (word (pos 7)))
     ∷ gives (fenced (pos 512) 31 swapSr 30) (done 0 0 1 (pos 1) (pos 31) (pos 9) (pos 2) (word (pos 7)) (word (pos 512)))
-    -- "Entry to the handler still writes cells 100 to 102": with the fence at "the count of cells"; one more is refused
+    -- "Entry to the handler still writes cells 100 to 102", and no other: with the fence at "the count of cells"; one more is refused
     ∷ gives (fenced (pos 0) 256 st30 102) (done 0 0 1 (pos 200) (pos 31) (pos 512) (pos 1) (word (pos 7)) (word (pos 5)))
+    ∷ gives (fenced (pos 0) 256 st30 103) (done 0 0 1 (pos 200) (pos 31) (pos 512) (pos 1) (word (pos 7)) empty)
     ∷ gives
     (fenced (pos 0) 257 st30 30)
     (record { refusal = 4; stop = 0; detail = 0; steps = 0; empty = 0; pc = pos 0; sp = pos 31; sr = pos 0; cycles = pos 0; pending = pos 0; written = pos 0; a = word (pos 7); b = empty; there = word (pos 9) })

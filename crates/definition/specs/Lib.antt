@@ -14,3 +14,5 @@ pub mod Calls
 pub mod Course
 pub mod UserMode
 pub mod Accepted
+pub mod Fence
+pub mod Budgets

@@ -9,7 +9,7 @@ use crate::asked::Asked;
 use crate::coverage::{Coverage, all_pairs};
 use crate::faults::{self, Fault};
 use crate::trial::{CALLS, Call, Trial};
-use crate::{accepted, anything, damaged, exercise, huge, tags};
+use crate::{accepted, anything, cuts, damaged, exercise, huge, tags};
 
 /// How often each fault, and each pair of faults, is put into another accepted trial.
 const EACH_FAULT: usize = 6;
@@ -33,6 +33,7 @@ pub fn check(seed: u64) -> Result<Vec<String>, String> {
         check.anything(call)?;
     }
     check.long_budgets()?;
+    let cuts = cuts::check(seed)?;
     let tags = tags::check()?;
     let huge = huge::check()?;
     let exercise = exercise::check(seed)?;
@@ -43,6 +44,7 @@ pub fn check(seed: u64) -> Result<Vec<String>, String> {
             "{LONG} runs that end by themselves, each on {} budgets of 2^32 to 2^64 - 1",
             LONG_BUDGETS.len()
         ),
+        cuts,
         huge,
         exercise,
     ])

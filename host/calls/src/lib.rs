@@ -6,6 +6,7 @@ mod anything;
 mod asked;
 mod check;
 mod coverage;
+mod cuts;
 mod damaged;
 mod exercise;
 mod faults;
