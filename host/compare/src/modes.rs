@@ -51,6 +51,7 @@ pub fn all(harness: &mut Harness, size: &Size, seed: u64) -> Result<Vec<String>,
     programs(harness, size.programs, seed)?;
     let user = pairs::check(&mut Rng::new(seed + 2), size.pairs, 300)?;
     let (after_programs, calls, outside) = (harness.steps, harness.calls, harness.read_outside);
+    let at_ports = harness.timer.steps();
     reached(harness.coverage.missing(&BASE_KINDS, 1))?;
     with_a_fence(harness, size.fenced, seed + 3)?;
     reached([harness.coverage.missing(&[Kind::Fenced], 1), harness.fence.missing()].concat())?;
@@ -64,7 +65,8 @@ pub fn all(harness: &mut Harness, size: &Size, seed: u64) -> Result<Vec<String>,
         ),
         format!(
             "{} steps and {} calls compared: single {after_singles}, words {}, programs {}; of these steps {} read an operand \
-             outside the cells, and are held to the original's stop with its own entry of code 5 after it",
+             outside the cells, and are held to the original's stop with its own entry of code 5 after it; {at_ports} use the \
+             timer's ports, or come after it was turned on there",
             after_programs,
             calls,
             after_words - after_singles,
