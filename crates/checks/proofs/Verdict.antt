@@ -2,10 +2,10 @@
 use mathlib.Core.Path.{_≡_, refl, sym, ap, _∙_}
 use mathlib.Core.Bool.{Bool, true, false, cond, _&&_, _||_, true≢false}
 use mathlib.Core.List.{List, [], _∷_, _++_}
-use Prim.Native.Nat.{ℕ, _+_, _-_, _<_, _≤_}
+use Prim.Native.Nat.{ℕ, _+_, _-_, _<_, _≤_, _^_}
 use native.Mathlib.Omega.{arith}
 use lib.IntN.{ℤ, pos, negsuc, natAbs}
-use lib.Signed.{ltZ}
+use lib.Signed.{mag, ltZ}
 use lib.Dec.{ltb, leb}
 use borrow.Author.Tests.{ltb-true, leb-true, eq-eqb, ne-eqb, le-leb, lt-leb, leb-false}
 use Rattle.definition.specs.declared.Done.{Done}
@@ -74,6 +74,10 @@ pub below-natural : (n : ℕ) (z : ℤ) → ltZ z (pos 0) ≡ false → ltb (nat
 unfolding isBelow
 below-natural n (pos k) h = refl
 below-natural n (negsuc k) h = absurd (true≢false h)
+
+pub magnitude-most : (z : ℤ) → mag z < 2 ^ 63 → natAbs z ≤ 2 ^ 63
+magnitude-most (pos k) h = omega arith
+magnitude-most (negsuc k) h = omega arith
 
 -- A sum within a bound, by the room that is left.
 pub room : (a b n : ℕ) → a ≤ n → leb b (n - a) ≡ leb (a + b) n

@@ -3,8 +3,8 @@ use definition::Done;
 use definition::places;
 ghost use mathlib.Core.Path.{_≡_};
 ghost use mathlib.Core.Bool.{cond};
-ghost use Prim.Native.Nat.{_+_, _<_, _≤_};
-ghost use lib.IntN.{pos};
+ghost use Prim.Native.Nat.{ℕ, suc, _+_, _<_, _≤_};
+ghost use lib.IntN.{pos, natAbs};
 ghost use lib.ListN.{length, getD, drop};
 ghost use Rattle.definition.specs.Constants.{ROW};
 ghost use Rattle.definition.specs.Word.{addressOf};
@@ -73,6 +73,13 @@ pub fn below_at(row: &[i64], i: usize, n: u64) -> bool
     is_below(z, n)
 }
 
+// 0 to w
+fn is_within(z: i64, w: i64) -> bool
+    ensures { λ r. ⌜ r ≡ isBelow (suc (natAbs w)) z ⌝ }
+{
+    is_below(z, word::magnitude(w) + 1)
+}
+
 pub fn is_mark_at(row: &[i64], i: usize) -> bool
     requires { ⌜ i < length (now row) ⌝ }
     ensures { λ r. ⌜ r ≡ isMark (getD (now (row .entry)) i (pos 0)) ⌝ }
@@ -96,7 +103,24 @@ pub fn sound_at(row: &[i64], i: usize) -> bool
     encoding::is_sound(row::cell_at(row, i))
 }
 
-// "4. [...] its number at this place (from 1, the lowest such) is out of range": from enable on.
+// "4. [...] its number at this place (from 1, the lowest such) is out of range": the timer's.
+pub fn timer_numbers(row: &[i64]) -> Done
+    requires { ⌜ length (now row) ≡ ROW ⌝ }
+    ensures { λ r. ⌜ ((q o n : ℕ) → r ≡ verdict (drop 13 (rowTests q o n (now (row .entry))))) ⌝ }
+{
+    let interval = row[places::INTERVAL];
+    let remaining = row[places::REMAINING];
+    let d = check(is_mark_at(row, places::MARK), 4, places::ROW_MARK, accept());
+    let d = check(is_within(remaining, interval), 4, places::ROW_REMAINING, d);
+    check(
+        is_below(interval, 0x8000_0000_0000_0000),
+        4,
+        places::ROW_INTERVAL,
+        d,
+    )
+}
+
+// From enable on.
 pub fn console_numbers(row: &[i64], q: usize, o: usize, n: usize) -> Done
     requires { ⌜ (length (now row) ≡ ROW) × ((q ≤ 4096) × ((o ≤ 65536) × (n ≤ 10000))) ⌝ }
     ensures { λ r. ⌜ r ≡ verdict (drop 6 (rowTests q o n (now (row .entry)))) ⌝ }
@@ -105,7 +129,7 @@ pub fn console_numbers(row: &[i64], q: usize, o: usize, n: usize) -> Done
         below_at(row, places::FENCE, n as u64 + 1),
         4,
         places::ROW_FENCE,
-        accept(),
+        timer_numbers(row),
     );
     let d = check(
         below_at(row, places::WRITTEN, o as u64 + 1),
@@ -130,7 +154,7 @@ pub fn console_numbers(row: &[i64], q: usize, o: usize, n: usize) -> Done
     check(is_mark_at(row, places::ENABLE), 4, places::ROW_ENABLE, d)
 }
 
-// "a damaged a or b counts at place 1 or 4": the whole row, if it is 17 long.
+// "a damaged a or b counts at place 1 or 4": the whole row, if it is 20 long.
 pub fn row_numbers(row: &[i64], q: usize, o: usize, n: usize) -> Done
     requires { ⌜ (length (now row) ≡ ROW) × ((q ≤ 4096) × ((o ≤ 65536) × (n ≤ 10000))) ⌝ }
     ensures { λ r. ⌜ r ≡ verdict (drop 1 (rowTests q o n (now (row .entry)))) ⌝ }
@@ -147,7 +171,7 @@ pub fn row_numbers(row: &[i64], q: usize, o: usize, n: usize) -> Done
     check(sound_at(row, places::A), 4, places::ROW_A, d)
 }
 
-// "4. The row is not 16 long, or its number at this place [...] is out of range", and "Refusal 4 now wants 17 numbers." The queue has q places, the
+// "4. The row is not 16 long, or its number at this place [...] is out of range", and with the timer "20 numbers". The queue has q places, the
 // output record o, and there are n cells.
 pub fn row_check(row: &[i64], q: usize, o: usize, n: usize) -> Done
     requires { ⌜ (q ≤ 4096) × ((o ≤ 65536) × (n ≤ 10000)) ⌝ }

@@ -6,9 +6,10 @@ use Prim.Native.Nat.{ℕ, suc, _+_, _-_, _<_, _≤_}
 use native.Mathlib.Omega.{arith}
 use lib.IntN.{ℤ}
 use lib.ListN.{length}
-use lib.Dec.{ltb}
-use borrow.Author.Tests.{ltb-true, ltb-false}
+use lib.Dec.{ltb, eqb}
+use borrow.Author.Tests.{ltb-true, ltb-false, eqb-true}
 use Rattle.definition.specs.declared.Registers.{Registers}
+use Rattle.definition.specs.declared.Timer.{Timer}
 use Rattle.definition.specs.Constants.{CYCLES-END}
 use Rattle.definition.specs.Total.{TOTAL-MOST, total}
 use Rattle.definition.specs.Exception.{Ending, exception, stop, ending, HARDWARE-INTERRUPT, NO-HANDLER}
@@ -18,9 +19,11 @@ use Rattle.definition.specs.Encoding.{Instruction}
 use Rattle.definition.specs.Exec.{Core, core, Res, ok, err, andThen, return}
 use Rattle.definition.specs.Instructions.{Request, nothing, execute}
 use Rattle.definition.specs.Runtime as M
-use Rattle.definition.specs.Runtime.{Machine, with-core, with-cycles, with-mark, uncounted, Executed, Run, runs}
+use Rattle.definition.specs.Runtime.{Machine, with-core, with-mark, with-timer, executed, uncounted, Executed, Run, runs}
+use Rattle.definition.specs.Timer.{with-timer-mark, tick}
 use Rattle.definition.specs.Accepted.{AcceptedMachine}
 use Rattle.definition.proofs.Step.{limit-below}
+use Rattle.definition.proofs.Ticks.{tick-off}
 use Rattle.definition.proofs.Total.{total-plain, total-assoc}
 use Rattle.definition.proofs.Accepted.{OutcomeHas, Stepped, step-accepted, uncounted-in, run-most}
 use Rattle.definition.proofs.Budgets.{later-zero}
@@ -35,7 +38,7 @@ use Rattle.runtime.specs.declared.fetch.Fetched.{Fetched}
 use Rattle.runtime.specs.declared.perform.Served.{Served}
 use Rattle.runtime.specs.declared.arrive.Performed.{Performed}
 use Rattle.runtime.specs.declared.arrive.Arrival.{Arrival}
-use Rattle.runtime.specs.Meaning.{machineAt, guardOf, effectsAt, unsent, turnOf, Fetches, performedRes, concluded, done, attempted, executedAt, servedTurn, Serves, Concludes, outcomeAt}
+use Rattle.runtime.specs.Meaning.{machineAt, guardOf, effectsAt, unsent, turnOf, Fetches, performedRes, concludedBy, concluded, done, attempted, executedAt, servedTurn, Serves, Concludes, outcomeAt}
 use Rattle.runtime.proofs.Served.{serves-made, serves-unwritten}
 use Rattle.computer.specs.Meaning.{NEAR, quiet}
 
@@ -62,18 +65,18 @@ attempt-is g l s f h = at (f .ok) ∙ ap then (h .is)
     at false = refl
 
 -- what is served where an instruction was fetched, and where none was
-module _ (g : ℕ) (l : List ℤ) (q : List ℕ) (size : ℕ) (k : ConsoleState) (f : Fetched) where
-  pub served-ok : f .ok ≡ true → (r : Served) → Serves l q size k (f .i .cost) (executedAt g l (f .s) (f .i)) r → Serves l q size k (f .i .cost) (requested g l f) r
+module _ (g : ℕ) (l : List ℤ) (q : List ℕ) (size : ℕ) (k : ConsoleState) (time : Timer) (f : Fetched) where
+  pub served-ok : f .ok ≡ true → (r : Served) → Serves l q size k time (f .i .cost) (executedAt g l (f .s) (f .i)) r → Serves l q size k time (f .i .cost) (requested g l f) r
   served-ok h r v = rw h v
 
-  pub served-none : cellCount l ≤ 10000 → f .ok ≡ false → Serves l q size k (f .i .cost) (requested g l f) (done (unwritten (settled (f .s) (refused (f .error)))) k)
+  pub served-none : cellCount l ≤ 10000 → f .ok ≡ false → Serves l q size k time (f .i .cost) (requested g l f) (done (unwritten (settled (f .s) (refused (f .error)))) k time)
   served-none few h =
-      rw h (serves-unwritten l q size k (f .i .cost) (err (f .error) (core l (f .s))) few (settled (f .s) (refused (f .error))) refl)
+      rw h (serves-unwritten l q size k time (f .i .cost) (err (f .error) (core l (f .s))) few (settled (f .s) (refused (f .error))) refl)
 
 -- what an instruction made under the step's guard is what is served
-pub served-made : (l : List ℤ) (q : List ℕ) (size : ℕ) (m : State) (f : Fetched) → f .ok ≡ true → {g : ℕ} → g ≡ guardOf m → (d : Made) → made nothing l d ≡ executedAt g l (f .s) (f .i) → Serves l q size (m .k) (f .i .cost) (requested (guardOf m) l f) (done d (m .k))
+pub served-made : (l : List ℤ) (q : List ℕ) (size : ℕ) (m : State) (f : Fetched) → f .ok ≡ true → {g : ℕ} → g ≡ guardOf m → (d : Made) → made nothing l d ≡ executedAt g l (f .s) (f .i) → Serves l q size (m .k) (m .timer) (f .i .cost) (requested (guardOf m) l f) (done d (m .k) (m .timer))
 served-made l q size m f h e d v =
-    served-ok (guardOf m) l q size (m .k) f h _ (serves-made l q size (m .k) (f .i .cost) _ d (v ∙ ap (λ (n : ℕ). executedAt n l (f .s) (f .i)) e))
+    served-ok (guardOf m) l q size (m .k) (m .timer) f h _ (serves-made l q size (m .k) (m .timer) (f .i .cost) _ d (v ∙ ap (λ (n : ℕ). executedAt n l (f .s) (f .i)) e))
 
 -- ---- the step
 
@@ -86,30 +89,51 @@ recover-soon k m = go (M.hasHandler (m .core .cells))
     go true = omega arith
     go false = omega arith
 
+-- what entry takes off the timer adds no cycle
+elapses-soon : (k : ℕ) (o : M.Outcome) → M.reached (M.elapses k o) .cycles ≡ M.reached o .cycles
+unfolding M.elapses M.reached
+elapses-soon k (M.completed m) = refl
+elapses-soon k (M.stopped n d m) = refl
+
+enters-soon : (k : ℕ) (m : Machine) → M.reached (M.settle (M.enters k m)) .cycles ≤ m .cycles + 1
+unfolding M.settle
+enters-soon k m = let e = elapses-soon k (M.recover k m) in let h = recover-soon k m in omega arith
+
 ends-soon : (x : Ending) (m : Machine) → M.reached (M.settle (M.ends x m)) .cycles ≤ m .cycles + 1
 unfolding M.settle M.ends M.reached
-ends-soon (exception k) m = recover-soon k m
+ends-soon (exception k) m = enters-soon k m
 ends-soon (stop n d) m = omega arith
 
 poll-soon : (m : Machine) → M.reached (M.settle (M.poll m)) .cycles ≤ m .cycles + 1
 unfolding M.settle M.poll M.reached
-poll-soon m = go (interruptEnable (m .core .regs) && m .console .marks .pending)
+poll-soon m = go (interruptEnable (m .core .regs) && m .console .marks .pending) (interruptEnable (m .core .regs) && m .timer .mark)
   where
-    go : (b : Bool) → M.reached (M.settle (cond b (M.enters HARDWARE-INTERRUPT (with-mark false m)) (M.completes m))) .cycles ≤ m .cycles + 1
-    go true = recover-soon HARDWARE-INTERRUPT _
-    go false = omega arith
+    go : (b d : Bool) → M.reached (M.settle (cond b (M.enters HARDWARE-INTERRUPT (with-mark false m)) (cond d (M.enters HARDWARE-INTERRUPT (with-timer (with-timer-mark false (m .timer)) m)) (M.completes m)))) .cycles ≤ m .cycles + 1
+    go true d = enters-soon HARDWARE-INTERRUPT _
+    go false true = enters-soon HARDWARE-INTERRUPT _
+    go false false = omega arith
 
-conclude-soon : (cost : ℕ) (m : Machine) (r : Res (Unit {0})) → M.reached (M.settle (M.conclude cost m r)) .cycles ≤ m .cycles + cost + 1
-unfolding M.conclude
-conclude-soon cost m (ok u c) = poll-soon (with-cycles (m .cycles + cost) (with-core c m))
-conclude-soon cost m (err e c) = let h = ends-soon (ending e) (with-core c m) in omega arith
+conclude-soon : (sets : Bool) (cost : ℕ) (m : Machine) (r : Res (Unit {0})) → M.reached (M.settle (concludedBy sets cost m r)) .cycles ≤ m .cycles + cost + 1
+conclude-soon sets cost m (ok u c) = poll-soon (with-timer (cond sets (m .timer) (tick cost (m .timer))) (executed cost c m))
+conclude-soon sets cost m (err e c) = let h = ends-soon (ending e) (with-core c m) in omega arith
+
+-- no mark is taken
+poll-quiet : (m : Machine) → m .console .marks .pending ≡ false → m .timer .mark ≡ false → M.completes m ≡ M.poll m
+unfolding M.poll
+poll-quiet m h k = sym (neither (interruptEnable (m .core .regs)) (m .console .marks .pending) (m .timer .mark) _ _ _ h k)
+  where
+    neither : (i p t : Bool) (x y z : M.Turn) → p ≡ false → t ≡ false → cond (i && p) x (cond (i && t) y z) ≡ z
+    neither true true t x y z h k = absurd (true≢false h)
+    neither true false true x y z h k = absurd (true≢false k)
+    neither true false false x y z h k = refl
+    neither false p t x y z h k = refl
 
 module _ (l : List ℤ) (q o : List ℕ) (m : State) (f : Fetched) (h : Fetches l (m .s) f) where
   abbrev before : Machine
   before = machineAt l q o m
 
   abbrev Served-is : Served → Type 0
-  Served-is r = Serves l q (length o) (m .k) (f .i .cost) (requested (guardOf m) l f) r
+  Served-is r = Serves l q (length o) (m .k) (m .timer) (f .i .cost) (requested (guardOf m) l f) r
 
   turn-is : (r : Served) → Served-is r → servedTurn l q o before (f .i .cost) r ≡ M.turn before
   unfolding M.turn M.guard
@@ -137,34 +161,32 @@ module _ (l : List ℤ) (q o : List ℕ) (m : State) (f : Fetched) (h : Fetches 
       go true t =
           let n : m .cycles < NEAR = ltb-true _ _ t in
           let cheap = h .cheap in
-          let z = conclude-soon (f .i .cost) (effectsAt l q o (m .fence) (m .cycles) (e .f)) (performedRes l e) in
+          let z = conclude-soon (e .sets) (f .i .cost) (effectsAt l q o (m .fence) (m .cycles) (e .f)) (performedRes l e) in
           limit-below _ _ (omega arith) ∙ sym (limit-below _ _ (omega arith))
       go false t = ap (λ (x : State). M.limit (machineAt l q o x) (M.settle went)) (k (ltb-false _ _ t))
 
   -- the usual step
-  pub quiet-step : (d : Made) → Served-is (done d (m .k)) → d .ok ≡ true → quiet (m .k) (m .cycles + f .i .cost) ≡ true → M.completed (machineAt (planned l (d .p)) q o (record { s = d .p .s; cycles = m .cycles + f .i .cost; k = m .k; fence = m .fence })) ≡ M.step before
-  unfolding M.step M.settle M.reached M.conclude M.poll
+  pub quiet-step : (d : Made) → Served-is (done d (m .k) (m .timer)) → d .ok ≡ true → quiet (m .k) (m .timer) (m .cycles + f .i .cost) ≡ true → M.completed (machineAt (planned l (d .p)) q o (record { s = d .p .s; cycles = m .cycles + f .i .cost; k = m .k; fence = m .fence; timer = m .timer })) ≡ M.step before
+  unfolding M.step M.settle M.reached
   quiet-step d v ok-is t =
-      let p = quiet-parts (m .k .marks .pending) (ltb (m .cycles + f .i .cost) NEAR) t in
-      let n : m .cycles + f .i .cost < NEAR = ltb-true _ _ (p .1) in
-      let after : Machine = machineAt (planned l (d .p)) q o (record { s = d .p .s; cycles = m .cycles + f .i .cost; k = m .k; fence = m .fence }) in
-      let z : (interruptEnable (d .p .s) && m .k .marks .pending) ≡ false = ap (λ (b : Bool). interruptEnable (d .p .s) && b) (p .0) ∙ and-false (interruptEnable (d .p .s)) in
+      let p = quiet-parts (m .k .marks .pending) (m .timer .mark) (eqb (m .timer .interval) 0) (ltb (m .cycles + f .i .cost) NEAR) t in
+      let n : m .cycles + f .i .cost < NEAR = ltb-true _ _ (p .3) in
+      let after : Machine = machineAt (planned l (d .p)) q o (record { s = d .p .s; cycles = m .cycles + f .i .cost; k = m .k; fence = m .fence; timer = m .timer }) in
       sym (limit-below before (M.completed after) (omega arith))
-      ∙ ap (λ (b : Bool). M.limit before (M.settle (cond b (M.enters HARDWARE-INTERRUPT (with-mark false after)) (M.completes after)))) (sym z)
-      ∙ ap (λ (b : Bool). M.limit before (M.settle (M.conclude (f .i .cost) (effectsAt l q o (m .fence) (m .cycles) (unsent (d .p) (m .k))) (result tt b (d .error) (coreOf l (d .p)))))) (sym ok-is)
+      ∙ ap (λ (x : M.Turn). M.limit before (M.settle x)) (poll-quiet after (p .0) (p .1))
+      ∙ ap (λ (x : Timer). M.limit before (M.settle (M.poll (with-timer x after)))) (sym (tick-off (f .i .cost) (m .timer) (eqb-true _ _ (p .2))))
+      ∙ ap (λ (b : Bool). M.limit before (M.settle (concludedBy false (f .i .cost) (effectsAt l q o (m .fence) (m .cycles) (unsent (d .p) (m .k) (m .timer))) (result tt b (d .error) (coreOf l (d .p)))))) (sym ok-is)
       ∙ ap (λ (x : M.Turn). M.limit before (M.settle x)) (turn-is _ v)
     where
-      quiet-parts : (a b : Bool) → (not a && b) ≡ true → (a ≡ false) × (b ≡ true)
-      quiet-parts true b t = absurd (true≢false (sym t))
-      quiet-parts false b t = (refl, t)
+      quiet-parts : (a b c d : Bool) → (not a && (not b && (c && d))) ≡ true → (a ≡ false) × (b ≡ false) × (c ≡ true) × (d ≡ true)
+      quiet-parts true b c d t = absurd (true≢false (sym t))
+      quiet-parts false true c d t = absurd (true≢false (sym t))
+      quiet-parts false false true d t = (refl, refl, refl, t)
+      quiet-parts false false false d t = absurd (true≢false (sym t))
 
-      and-false : (b : Bool) → (b && false) ≡ false
-      and-false true = refl
-      and-false false = refl
-
-  pub quiet-unwritten : (d : Made) → cellCount l ≤ d .p .at → Served-is (done d (m .k)) → d .ok ≡ true → quiet (m .k) (m .cycles + f .i .cost) ≡ true → M.completed (machineAt l q o (record { s = d .p .s; cycles = m .cycles + f .i .cost; k = m .k; fence = m .fence })) ≡ M.step before
+  pub quiet-unwritten : (d : Made) → cellCount l ≤ d .p .at → Served-is (done d (m .k) (m .timer)) → d .ok ≡ true → quiet (m .k) (m .timer) (m .cycles + f .i .cost) ≡ true → M.completed (machineAt l q o (record { s = d .p .s; cycles = m .cycles + f .i .cost; k = m .k; fence = m .fence; timer = m .timer })) ≡ M.step before
   quiet-unwritten d out v ok-is t =
-      ap (λ (x : List ℤ). M.completed (machineAt x q o (record { s = d .p .s; cycles = m .cycles + f .i .cost; k = m .k; fence = m .fence }))) (sym (over-none l (d .p .at) (d .p .v) out))
+      ap (λ (x : List ℤ). M.completed (machineAt x q o (record { s = d .p .s; cycles = m .cycles + f .i .cost; k = m .k; fence = m .fence; timer = m .timer }))) (sym (over-none l (d .p .at) (d .p .v) out))
       ∙ quiet-step d v ok-is t
 
 -- ---- the run

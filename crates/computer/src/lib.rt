@@ -1,6 +1,7 @@
 // Computer::step and Computer::run of mod.rs, over lent cells, queue and output record.
 use console::ConsoleState;
 use definition::Registers;
+use definition::Timer;
 use runtime::State;
 use runtime::Stepped;
 ghost use mathlib.Core.Path.{_≡_};
@@ -37,26 +38,30 @@ fn output_full(m: State) -> Stepped
     }
 }
 
-// No interrupt is due, and no step that ends with so many cycles is near stop 7.
-fn is_quiet(k: ConsoleState, cycles: u64) -> bool
-    ensures { λ r. ⌜ r ≡ quiet k cycles ⌝ }
+// No interrupt is due, the timer is off, and no step that ends with so many cycles is near stop 7.
+fn is_quiet(k: ConsoleState, timer: Timer, cycles: u64) -> bool
+    ensures { λ r. ⌜ r ≡ quiet k timer cycles ⌝ }
 {
     let marks = k.marks;
     if marks.pending {
         return false;
     }
-    cycles < 0x4000_0000_0000_0000
+    if timer.mark {
+        return false;
+    }
+    (timer.interval == 0) & (cycles < 0x4000_0000_0000_0000)
 }
 
 // A step that completes without exception entry.
-fn completes(s: Registers, cycles: u64, k: ConsoleState, fence: u32) -> Stepped
-    ensures { λ r. ⌜ r ≡ record { completed = true; stop = 0; detail = 0; m = record { s = s; cycles = cycles; k = k; fence = fence } } ⌝ }
+fn completes(s: Registers, cycles: u64, k: ConsoleState, fence: u32, timer: Timer) -> Stepped
+    ensures { λ r. ⌜ r ≡ record { completed = true; stop = 0; detail = 0; m = record { s = s; cycles = cycles; k = k; fence = fence; timer = timer } } ⌝ }
 {
     let m = State {
         s,
         cycles,
         k,
         fence,
+        timer,
     };
     Stepped {
         completed: true,
@@ -74,18 +79,23 @@ pub fn step(cells: &mut [i64], queue: &[u8], output: &mut [u8], saved: State, m:
 {
     let s = m.s;
     let k = m.k;
+    let timer = m.timer;
     let f = runtime::fetch::fetch(cells, s);
     let t = f.s;
     let i = f.i;
     let error = f.error;
     let n = m.cycles + i.cost;
-    let mut e = runtime::perform::performed(stores::with_none(registers::refuse(t, error)), k);
+    let mut e = runtime::perform::performed(
+        stores::with_none(registers::refuse(t, error)),
+        k,
+        timer,
+    );
     if f.ok {
         let op = i.op;
         let x = i.x;
         let y = i.y;
         if instructions::is_asker(op) {
-            let served = runtime::perform::ask(cells, queue, output.len(), t, k, i);
+            let served = runtime::perform::ask(cells, queue, output.len(), t, k, timer, i);
             if served.full {
                 return output_full(m);
             }
@@ -96,17 +106,17 @@ pub fn step(cells: &mut [i64], queue: &[u8], output: &mut [u8], saved: State, m:
             let u = p.s;
             if d.ok {
                 if p.at == memory::NO_CELL {
-                    if is_quiet(k, n) {
-                        return completes(u, n, k, m.fence);
+                    if is_quiet(k, timer, n) {
+                        return completes(u, n, k, m.fence, timer);
                     }
                 } else {
-                    if is_quiet(k, n) {
+                    if is_quiet(k, timer, n) {
                         runtime::commit::write(cells, output, p, false, 0, false, 0, 0);
-                        return completes(u, n, k, m.fence);
+                        return completes(u, n, k, m.fence, timer);
                     }
                 }
             }
-            e = runtime::perform::performed(d, k);
+            e = runtime::perform::performed(d, k, timer);
         }
     }
     let a = runtime::arrive::conclude(e, i.cost, m.cycles);

@@ -8,24 +8,27 @@ use lib.ListN.{length, getD, length-set}
 use lib.Dec.{ltb, leb, eqb}
 use borrow.Author.Tests.{ltb-true, ltb-false, leb-false}
 use Rattle.definition.specs.declared.Marks.{Marks}
+use Rattle.definition.specs.declared.Timer.{Timer}
 use Rattle.definition.specs.declared.Error.{Error}
 use Rattle.definition.specs.declared.Error.the-variants.{DivByZero, InvalidInstruction, PrivilegedInstruction, Trap, InvalidMemoryAccess, CellError, Extract, InvalidPc, InvalidSp, InvalidSr, Reset}
 use Rattle.definition.specs.declared.Ran.{Ran}
-use Rattle.definition.specs.Constants.{CYCLES-END}
+use Rattle.definition.specs.Constants.{CYCLES-END, TIMER-INTERVAL-PORT}
 use Rattle.definition.specs.Total.{TOTAL-MOST}
 use Rattle.definition.specs.Exception.{stop, ending, HARDWARE-INTERRUPT, NO-HANDLER, OUTPUT-FULL, CYCLES-FULL}
 use Rattle.definition.specs.Memory.{word}
 use Rattle.definition.specs.Registers.{interruptEnable}
 use Rattle.definition.specs.Io.{Console, with-marks, inputReady, status, readStatus, writeControl, around, readData, readPort, writeData, writePort, outputFull}
+use Rattle.definition.specs.Timer.{with-timer-mark, setTimer, readTimer}
 use Rattle.definition.specs.Exec.{Core, Res, ok, err}
 use Rattle.definition.specs.Instructions.{Request, nothing, reads, writes, setRegister}
-use Rattle.definition.specs.Runtime.{Machine, with-core, with-cycles, with-console, with-mark, Executed, attempt, Turn, completes, enters, stops, ends, poll, conclude, serve, afterAttempt, guard, turn, Outcome, completed, stopped, hasHandler, entered, recover, settle, reached, limit, step, Run, uncounted, later, goOn, run}
+use Rattle.definition.specs.Runtime.{Machine, with-core, with-cycles, with-console, with-timer, with-mark, executed, Executed, attempt, Turn, completes, enters, stops, ends, poll, conclude, serve, afterAttempt, guard, turn, Outcome, completed, stopped, hasHandler, entered, recover, elapsed, elapses, settle, reached, limit, step, Run, uncounted, later, goOn, run}
 use Rattle.definition.specs.Calls.{Lent, lentMachine, lentOf, Called, passes, runCheck, ran, runRefused, runCall}
 use Rattle.definition.specs.UserMode.{Accepted}
-use Rattle.definition.specs.Accepted.{Sound, AcceptedCore, ConsoleIn, AcceptedMachine, RunsAccepted}
+use Rattle.definition.specs.Accepted.{Sound, AcceptedCore, ConsoleIn, TimerIn, AcceptedMachine, RunsAccepted}
 -- Not cited: the table is proved first, so that a wrong rule is refused at a row that shows it.
 use Rattle.definition.proofs.Course.{course}
 use Rattle.definition.proofs.Total.{total-most}
+use Rattle.definition.proofs.Ticks.{tick-in, entry-in, set-in}
 use Rattle.definition.proofs.Keeps.{Good, k-set, attempt-keeps}
 use Rattle.definition.proofs.AcceptedCore.{any-laws, word-sound}
 use Rattle.definition.proofs.UserStep.{entered-accepted}
@@ -82,6 +85,7 @@ write-in p w k h e = go (eqb p 110) (eqb p 111) refl
 pub record Both (m : Machine) : Type 0 where
   pub core-in : AcceptedCore (m .fence) (m .core)
   pub console-in : ConsoleIn (m .console)
+  pub timer-in : TimerIn (m .timer)
 
 -- P holds of the machine, and a stop's number is not 0
 abbrev TurnHas : (Machine → Type 0) → Turn → Type 0
@@ -95,13 +99,16 @@ OutcomeHas P (stopped n d m) = (1 ≤ n) × P m
 
 -- one part changed
 both-core : (m : Machine) (c : Core) → Both m → AcceptedCore (m .fence) c → Both (with-core c m)
-both-core m c b f = record { core-in = f; console-in = b .console-in }
+both-core m c b f = record { core-in = f; console-in = b .console-in; timer-in = b .timer-in }
 
 both-cycles : (m : Machine) (n : ℕ) → Both m → Both (with-cycles n m)
-both-cycles m n b = record { core-in = b .core-in; console-in = b .console-in }
+both-cycles m n b = record { core-in = b .core-in; console-in = b .console-in; timer-in = b .timer-in }
 
 both-console : (m : Machine) (k : Console) → Both m → ConsoleIn k → Both (with-console k m)
-both-console m k b h = record { core-in = b .core-in; console-in = h }
+both-console m k b h = record { core-in = b .core-in; console-in = h; timer-in = b .timer-in }
+
+both-timer : (m : Machine) (t : Timer) → Both m → TimerIn t → Both (with-timer t m)
+both-timer m t b h = record { core-in = b .core-in; console-in = b .console-in; timer-in = h }
 
 ends-in : (e : Error) (m : Machine) → Both m → TurnHas Both (ends (ending e) m)
 unfolding ends ending
@@ -119,30 +126,35 @@ ends-in Reset m b = (omega arith, b)
 
 poll-in : (m : Machine) → Both m → TurnHas Both (poll m)
 unfolding poll
-poll-in m b = go (interruptEnable (m .core .regs) && m .console .marks .pending)
+poll-in m b = go (interruptEnable (m .core .regs) && m .console .marks .pending) (interruptEnable (m .core .regs) && m .timer .mark)
   where
-    go : (t : Bool) → TurnHas Both (cond t (enters HARDWARE-INTERRUPT (with-mark false m)) (completes m))
-    go true = both-console m _ b (marks-in (m .console) _ (b .console-in))
-    go false = b
+    go : (p t : Bool) → TurnHas Both (cond p (enters HARDWARE-INTERRUPT (with-mark false m)) (cond t (enters HARDWARE-INTERRUPT (with-timer (with-timer-mark false (m .timer)) m)) (completes m)))
+    go true t = both-console m _ b (marks-in (m .console) _ (b .console-in))
+    go false true = both-timer m _ b (record { interval-in = b .timer-in .interval-in; remaining-in = b .timer-in .remaining-in })
+    go false false = b
 
 abbrev GoodAny : {X : Type 0} → ℕ → Res X → Type 0
 GoodAny {X} f r = Good (AcceptedCore f) (λ (x : X). Unit {0}) r
 
+executed-in : (cost : ℕ) (c : Core) (m : Machine) → Both m → AcceptedCore (m .fence) c → Both (executed cost c m)
+executed-in cost c m b f = both-cycles (with-core c m) _ (both-core m c b f)
+
 conclude-in : (cost : ℕ) (m : Machine) (r : Res (Unit {0})) → Both m → GoodAny (m .fence) r → TurnHas Both (conclude cost m r)
 unfolding conclude
-conclude-in cost m (ok u c) b g = poll-in (with-cycles (m .cycles + cost) (with-core c m)) (both-cycles (with-core c m) _ (both-core m c b (g .1)))
+conclude-in cost m (ok u c) b g = poll-in _ (both-timer (executed cost c m) _ (executed-in cost c m b (g .1)) (tick-in cost (m .timer) (b .timer-in)))
 conclude-in cost m (err e c) b g = ends-in e (with-core c m) (both-core m c b g)
 
 serve-in : (m : Machine) (q : Request) (cost : ℕ) (c : Core) → Both m → AcceptedCore (m .fence) c → TurnHas Both (serve m q cost c)
 unfolding serve
 serve-in m nothing cost c b f = conclude-in cost m (ok tt c) b (tt, f)
 serve-in m (reads p r) cost c b f =
-    conclude-in cost (with-console (readPort p (m .console) .1) m) (setRegister r (word (pos (readPort p (m .console) .0))) c) (both-console m _ b (read-in p (m .console) (b .console-in))) (k-set 0 (AcceptedCore (m .fence)) Sound (Unit {0}) (λ (q : Request). Unit {0}) (any-laws 0 (m .fence)) r _ (word-sound _) .at c f)
-serve-in m (writes p w) cost c b f = go (outputFull p (m .console)) refl
+    conclude-in cost (with-console (readPort p (m .console) .1) m) (setRegister r (word (pos (readTimer p (m .timer) (readPort p (m .console) .0)))) c) (both-console m _ b (read-in p (m .console) (b .console-in))) (k-set 0 (AcceptedCore (m .fence)) Sound (Unit {0}) (λ (q : Request). Unit {0}) (any-laws 0 (m .fence)) r _ (word-sound _) .at c f)
+serve-in m (writes p w) cost c b f = go (outputFull p (m .console)) refl (eqb p TIMER-INTERVAL-PORT)
   where
-    go : (t : Bool) → outputFull p (m .console) ≡ t → TurnHas Both (cond t (stops OUTPUT-FULL 0 m) (conclude cost (with-console (writePort p w (m .console)) m) (ok tt c)))
-    go true e = (omega arith, b)
-    go false e =
+    go : (t : Bool) → outputFull p (m .console) ≡ t → (d : Bool) → TurnHas Both (cond t (stops OUTPUT-FULL 0 m) (cond d (poll (with-timer (setTimer w (m .timer)) (executed cost c m))) (conclude cost (with-console (writePort p w (m .console)) m) (ok tt c))))
+    go true e d = (omega arith, b)
+    go false e true = poll-in _ (both-timer (executed cost c m) _ (executed-in cost c m b f) (set-in w (m .timer)))
+    go false e false =
         conclude-in cost (with-console (writePort p w (m .console)) m) (ok tt c) (both-console m _ b (write-in p w (m .console) (b .console-in) e)) (tt, f)
 
 after-in : (m : Machine) (r : Res Executed) → Both m → GoodAny (m .fence) r → TurnHas Both (afterAttempt m r)
@@ -150,13 +162,17 @@ unfolding afterAttempt
 after-in m (ok x c) b g = serve-in m (x .request) (x .cost) c b (g .1)
 after-in m (err e c) b g = ends-in e (with-core c m) (both-core m c b g)
 
+entered-in : (k : ℕ) (m : Machine) → Both m → Both (entered k m)
+unfolding entered
+entered-in k m b = both-cycles (with-core _ m) _ (both-core m _ b (entered-accepted k (m .core) (b .core-in)))
+
 settle-in : (t : Turn) → TurnHas Both t → OutcomeHas Both (settle t)
-unfolding settle recover entered
+unfolding settle recover elapses
 settle-in (completes m) b = b
 settle-in (enters k m) b = go (hasHandler (m .core .cells))
   where
-    go : (t : Bool) → OutcomeHas Both (cond t (completed (entered k m)) (stopped NO-HANDLER k m))
-    go true = both-cycles (with-core _ m) _ (both-core m _ b (entered-accepted k (m .core) (b .core-in)))
+    go : (t : Bool) → OutcomeHas Both (elapses k (cond t (completed (entered k m)) (stopped NO-HANDLER k m)))
+    go true = both-timer (entered k m) _ (entered-in k m b) (entry-in k _ (entered-in k m b .timer-in))
     go false = (omega arith, b)
 settle-in (stops n d m) b = b
 
@@ -166,11 +182,11 @@ pub record Stepped (m : Machine) : Type 0 where
   pub cycles-in : m .cycles < CYCLES-END
 
 pub stepped : (m : Machine) → AcceptedMachine m → Stepped m
-stepped m a = record { both = record { core-in = a .core-in; console-in = a .console-in }; cycles-in = a .cycles-in }
+stepped m a = record { both = record { core-in = a .core-in; console-in = a .console-in; timer-in = a .timer-in }; cycles-in = a .cycles-in }
 
 pub uncounted-in : (m : Machine) → Stepped m → AcceptedMachine (uncounted m)
 uncounted-in m b =
-    record { core-in = any-laws 0 (m .fence) .to-empties (m .core) (b .both .core-in) 0; cycles-in = b .cycles-in; console-in = b .both .console-in; none-counted = refl }
+    record { core-in = any-laws 0 (m .fence) .to-empties (m .core) (b .both .core-in) 0; cycles-in = b .cycles-in; console-in = b .both .console-in; timer-in = b .both .timer-in; none-counted = refl }
 
 limit-in : (m : Machine) → Stepped m → (o : Outcome) → OutcomeHas Both o → OutcomeHas Stepped (limit m o)
 unfolding limit reached

@@ -98,7 +98,7 @@ cut-short (x ∷ before) n after l f =
 
 module _ (m : Machine) (a : AcceptedMachine m) (u : InUser m) where
   here : (ns : List ℕ) → GoesNoFurther ns (lentOf m) → UserCalls ns m (m .console) (m .console)
-  here ns f = user-calls (m .console) (m .console) (a .console-in) (a .console-in) ns m u (a .cycles-in) (a .none-counted) f
+  here ns f = user-calls (m .console) (m .console) (a .console-in) (a .console-in) ns m u (a .timer-in) (a .cycles-in) (a .none-counted) f
 
   left-cells : (ns : List ℕ) (f : GoesNoFurther ns (lentOf m)) → calls ns (lentOf m) .cells ≡ here ns f .after .core .cells
   left-cells ns f = ap (λ (x : Lent). x .cells) (here ns f .left₁)

@@ -10,15 +10,16 @@ use lib.Seq.{drop-cons}
 use lib.Dec.{leb, eqb}
 use borrow.Author.Tests.{ltb-true, leb-true, eqb-true, lt-ltb, le-leb, eq-eqb, ne-eqb}
 use Rattle.definition.specs.declared.Address.the-variants.{At, NotAddress}
-use Rattle.definition.specs.Constants.{CELLS-LEAST, CELLS-MOST, QUEUE-MOST, OUTPUT-MOST, CYCLES-END, ROW, ROW-PC, ROW-SP, ROW-SR, ROW-CYCLES, ROW-ENABLE, ROW-FLAG, ROW-PENDING, ROW-START, ROW-COUNT, ROW-WRITTEN, ROW-FENCE}
+use Rattle.definition.specs.Constants.{CELLS-LEAST, CELLS-MOST, QUEUE-MOST, OUTPUT-MOST, CYCLES-END, ROW, ROW-PC, ROW-SP, ROW-SR, ROW-CYCLES, ROW-ENABLE, ROW-FLAG, ROW-PENDING, ROW-START, ROW-COUNT, ROW-WRITTEN, ROW-FENCE, ROW-INTERVAL, ROW-REMAINING, ROW-MARK}
 use Rattle.definition.specs.Word.{eqZ, addressOf}
 use Rattle.definition.specs.Memory.{cell, cellCount, cellAt}
 use Rattle.definition.specs.Registers.{with-empties}
 use Rattle.definition.specs.Encoding.{sound, isAddress}
 use Rattle.definition.specs.Io.{marked}
+use Rattle.definition.specs.Timer.{timed}
 use Rattle.definition.specs.Exec.{core, with-regs}
 use Rattle.definition.specs.Runtime.{Machine, machine}
-use Rattle.definition.specs.Calls.{at, mark, machineOf, rowOf, Test, accepted, passes, isBelow, isMark, lowestDamaged, cellsTest, queueTest, outputTest, lengthTest, rowTests, damageTest, Lent, lent, lentMachine, lentOf, runCheck}
+use Rattle.definition.specs.Calls.{at, numberOfRow, mark, machineOf, rowOf, Test, accepted, passes, isBelow, isMark, lowestDamaged, cellsTest, queueTest, outputTest, lengthTest, rowTests, damageTest, Lent, lent, lentMachine, lentOf, runCheck}
 use Rattle.definition.specs.UserMode.{Accepted}
 use Rattle.definition.specs.Accepted.{Addr, Sound, Below, IsMark, RowFits, CellsFit, QueueFits, RunPassed, AcceptedMachine}
 use Rattle.definition.proofs.Verdict.{and-left, and-right, and-both, Passes, _&_, passed-at, passes-left, passes-right, numbered, verdict-passes, passes-verdict}
@@ -33,7 +34,7 @@ mark-back false = refl
 pub machine-back : (m : Machine) → m .core .regs .empties ≡ 0 → lentMachine (lentOf m) ≡ m
 unfolding machineOf rowOf
 machine-back m e =
-    λ i. machine (with-regs (with-empties (sym e i) (m .core .regs)) (m .core)) (m .cycles) (record { marks = marked (mark-back (m .console .marks .enable) i) (mark-back (m .console .marks .flag) i) (mark-back (m .console .marks .pending) i); queue = m .console .queue; start = m .console .start; count = m .console .count; output = m .console .output; written = m .console .written }) (m .fence)
+    λ i. machine (with-regs (with-empties (sym e i) (m .core .regs)) (m .core)) (m .cycles) (record { marks = marked (mark-back (m .console .marks .enable) i) (mark-back (m .console .marks .flag) i) (mark-back (m .console .marks .pending) i); queue = m .console .queue; start = m .console .start; count = m .console .count; output = m .console .output; written = m .console .written }) (m .fence) (timed (m .timer .interval) (m .timer .remaining) (mark-back (m .timer .mark) i))
 
 -- ---- no cell damaged, by the lowest address and by each
 
@@ -130,6 +131,9 @@ row-fits q o n row p =
       count = below-in (suc q) (at ROW-COUNT row) (t 10);
       written = below-in (suc o) (at ROW-WRITTEN row) (t 11);
       fence = below-in (suc n) (at ROW-FENCE row) (t 12);
+      interval = below-in CYCLES-END (at ROW-INTERVAL row) (t 13);
+      remaining = below-in (suc (numberOfRow ROW-INTERVAL row)) (at ROW-REMAINING row) (t 14);
+      mark = mark-in (at ROW-MARK row) (t 15);
     }
 
 pub cells-fit : (cells : List ℤ) → cellsTest cells .passed ≡ true → CellsFit cells
@@ -209,6 +213,7 @@ accepted-machine l h =
         count-in = let b = r .count .1 in omega arith;
         written-in = let b = r .written .1 in omega arith;
       };
+      timer-in = record { interval-in = r .interval .1; remaining-in = let b = r .remaining .1 in omega arith };
       none-counted = refl;
     }
 
@@ -238,6 +243,9 @@ machine-accepted m a =
     & below-is _ _ (let h = k .count-in in omega arith)
     & below-is _ _ (let h = k .written-in in omega arith)
     & below-is _ _ (let h = f .fenced in omega arith)
+    & below-is _ _ (a .timer-in .interval-in)
+    & below-is _ _ (let h = a .timer-in .remaining-in in omega arith)
+    & mark-is (m .timer .mark)
     & eq-eqb _ _ d
     & tt
     ))
@@ -257,5 +265,5 @@ unfolding machineOf rowOf
 row-back l h =
     let f = run-passed l h .row-fits in
     let g : ℕ → ℤ = λ (i : ℕ). at i (l .row) in
-    (λ i. lent (l .cells) (l .queue) (l .output) (g 1 ∷ g 2 ∷ g 3 ∷ g 4 ∷ g 5 ∷ g 6 ∷ sym (f .pc .0) i ∷ sym (f .sp .0) i ∷ g ROW-SR ∷ sym (f .cycles .0) i ∷ f .enable i ∷ f .flag i ∷ f .pending i ∷ sym (f .start .0) i ∷ sym (f .count .0) i ∷ sym (f .written .0) i ∷ sym (f .fence .0) i ∷ []))
+    (λ i. lent (l .cells) (l .queue) (l .output) (g 1 ∷ g 2 ∷ g 3 ∷ g 4 ∷ g 5 ∷ g 6 ∷ sym (f .pc .0) i ∷ sym (f .sp .0) i ∷ g ROW-SR ∷ sym (f .cycles .0) i ∷ f .enable i ∷ f .flag i ∷ f .pending i ∷ sym (f .start .0) i ∷ sym (f .count .0) i ∷ sym (f .written .0) i ∷ sym (f .fence .0) i ∷ sym (f .interval .0) i ∷ sym (f .remaining .0) i ∷ f .mark i ∷ []))
     ∙ ap (λ (r : List ℤ). lent (l .cells) (l .queue) (l .output) r) (sym (listed-is ROW 0 (l .row) (f .long)))

@@ -7,17 +7,18 @@ use native.Mathlib.Omega.{arith}
 use lib.IntN.{pos, natAbs}
 use Rattle.definition.specs.declared.Cell.{Cell}
 use Rattle.definition.specs.declared.Ran.{Ran}
-use Rattle.definition.specs.Constants.{CYCLES-END, ROW-A, ROW-PC, ROW-SR, ROW-PENDING, ROW-FENCE}
+use Rattle.definition.specs.Constants.{CYCLES-END, ROW-A, ROW-PC, ROW-SR, ROW-PENDING, ROW-FENCE, ROW-INTERVAL}
 use Rattle.definition.specs.Word.{eqZ}
 use Rattle.definition.specs.Memory.{cell, word, cellAt, isInstruction}
 use Rattle.definition.specs.Registers.{supervisor}
 use Rattle.definition.specs.Io.{Console}
+use Rattle.definition.specs.Timer.{timed}
 use Rattle.definition.specs.Exec.{core}
-use Rattle.definition.specs.Runtime.{Machine, turn, machine, hasHandler, enteredSr, enteredRegisters, enteredCore, Run, runs, uncounted, run}
+use Rattle.definition.specs.Runtime.{Machine, turn, machine, hasHandler, enteredSr, enteredRegisters, enteredCore, elapsed, Run, runs, uncounted, run}
 use Rattle.definition.specs.Runtime as M
 use Rattle.definition.specs.Calls.{Lent, lentMachine, lentOf, lentSupervisor, at, mark, machineOf, rowOf, Called, ran, runCall, calls, answers}
 use Rattle.definition.specs.UserMode.{Accepted, Alike, SameConsole, GoesNoFurther, Zeros, none, one, Entry, Whole, UserMode}
-use Rattle.definition.specs.Accepted.{AcceptedCore, ConsoleIn, AcceptedMachine}
+use Rattle.definition.specs.Accepted.{AcceptedCore, ConsoleIn, TimerIn, AcceptedMachine}
 use Rattle.definition.proofs.AcceptedCore.{InUser}
 use Rattle.definition.proofs.UserStep.{around, console, turn-is, turnAround, saved-pc, saved-sr, saved-code, saved-handler, entry-sets}
 use Rattle.definition.proofs.UserRun.{runAround, Within, Last, RunEnd, in-user, entered, RunIs, user-run}
@@ -80,9 +81,9 @@ only-zeros (suc n ∷ ns) m a s f =
 
 -- ---- the two machines
 
-around-accepted : (k : Console) (v : Machine) → ConsoleIn k → AcceptedCore (v .fence) (v .core) → v .cycles < CYCLES-END → v .core .regs .empties ≡ 0 → AcceptedMachine (around k v)
-around-accepted k v h c n z =
-    record { core-in = c; cycles-in = n; console-in = marks-in k _ h; none-counted = z }
+around-accepted : (k : Console) (v : Machine) → ConsoleIn k → AcceptedCore (v .fence) (v .core) → TimerIn (v .timer) → v .cycles < CYCLES-END → v .core .regs .empties ≡ 0 → AcceptedMachine (around k v)
+around-accepted k v h c t n z =
+    record { core-in = c; cycles-in = n; console-in = marks-in k _ h; timer-in = t; none-counted = z }
 
 entry-on : (n : ℕ) (ns : List ℕ) (l : Lent) → Entry ns (runCall n l .left) → Entry (n ∷ ns) l
 unfolding calls
@@ -113,7 +114,7 @@ entry-on n ns l e =
       taken = e .taken;
     }
 
-around-entered : (k : Console) (n : ℕ) (v : Machine) → around k (M.entered n v) ≡ M.entered n (around k v)
+around-entered : (k : Console) (n : ℕ) (v : Machine) → around k (elapsed n (M.entered n v)) ≡ elapsed n (M.entered n (around k v))
 unfolding M.entered
 around-entered k n v = refl
 
@@ -123,7 +124,7 @@ run-steps b m a = ap (λ (c : Called Ran Lent). c .answer .steps) (call-on b m a
 
 -- the run at this place enters, and only budgets of 0 stand behind it
 module _ (k : Console) (v : Machine) (a : AcceptedMachine (around k v)) (ns : List ℕ) (z : Zeros ns) (b : ℕ) (r : RunIs b v) (l : Last b v) (before-is : run (l .n) (around k v) ≡ runAround k (run (l .n) v)) where
-  final : calls (b ∷ ns) (lentOf (around k v)) ≡ lentOf (uncounted (M.entered (l .entry .code) (around k (l .entry .moment))))
+  final : calls (b ∷ ns) (lentOf (around k v)) ≡ lentOf (uncounted (elapsed (l .entry .code) (M.entered (l .entry .code) (around k (l .entry .moment)))))
   unfolding calls
   final =
       ap (calls ns) (call-left b (around k v) a)
@@ -160,7 +161,7 @@ module _ (k : Console) (v : Machine) (a : AcceptedMachine (around k v)) (ns : Li
         code = e .code;
         moment = around k (e .moment);
         turns = ap turn (machine-back (around k (l .last)) last-none) ∙ turn-is k (l .last) (l .user) ∙ ap (turnAround k) (e .turns);
-        leaves = ap lentMachine final ∙ machine-back (uncounted (M.entered (e .code) (around k (e .moment)))) refl;
+        leaves = ap lentMachine final ∙ machine-back (uncounted (elapsed (e .code) (M.entered (e .code) (around k (e .moment))))) refl;
         pc = ap (λ (x : Lent). at ROW-PC (x .row)) final;
         handler = ap (λ (x : Lent). isInstruction (cellAt (x .cells) 200)) final ∙ ap isInstruction (saved-handler (s .pc) (s .sr) (e .code) c low) ∙ e .handler;
         cell-100 = ap (λ (x : Lent). cellAt (x .cells) 100) final ∙ saved-pc (s .pc) (s .sr) (e .code) c low;
@@ -195,7 +196,7 @@ after-accepted : (n : ℕ) (v : Machine) (k : Console) → AcceptedMachine (arou
 after-accepted n v k a r = subst (λ (x : Run). AcceptedMachine (x .left)) (r .is k) (run-ends n (around k v) a .left-in)
 
 held-around : (k : Console) (v w : Machine) → Held (around k v) (around k w) → Held v w
-held-around k v w h = record { fence = h .fence; size = h .size; others = h .others; clear = h .clear }
+held-around k v w h = record { fence = h .fence; interval = h .interval; size = h .size; others = h .others; clear = h .clear }
 
 -- one call before the rest
 module _ (n : ℕ) (ns : List ℕ) (v : Machine) (k₁ k₂ : Console) (a₁ : AcceptedMachine (around k₁ v)) (a₂ : AcceptedMachine (around k₂ v)) (r : RunIs n v) (h : Held v (run n v .left)) where
@@ -233,15 +234,15 @@ module _ (n : ℕ) (ns : List ℕ) (v : Machine) (k₁ k₂ : Console) (a₁ : A
       }
 
 module _ (k₁ k₂ : Console) (h₁ : ConsoleIn k₁) (h₂ : ConsoleIn k₂) where
-  list-on : (n : ℕ) (ns : List ℕ) (v : Machine) (u : InUser v) (c : v .cycles < CYCLES-END) (z : v .core .regs .empties ≡ 0) → GoesNoFurther (n ∷ ns) (lentOf (around k₁ v)) → ((w : Machine) → InUser w → w .cycles < CYCLES-END → w .core .regs .empties ≡ 0 → GoesNoFurther ns (lentOf (around k₁ w)) → UserCalls ns w k₁ k₂) → UserCalls (n ∷ ns) v k₁ k₂
+  list-on : (n : ℕ) (ns : List ℕ) (v : Machine) (u : InUser v) (t : TimerIn (v .timer)) (c : v .cycles < CYCLES-END) (z : v .core .regs .empties ≡ 0) → GoesNoFurther (n ∷ ns) (lentOf (around k₁ v)) → ((w : Machine) → InUser w → TimerIn (w .timer) → w .cycles < CYCLES-END → w .core .regs .empties ≡ 0 → GoesNoFurther ns (lentOf (around k₁ w)) → UserCalls ns w k₁ k₂) → UserCalls (n ∷ ns) v k₁ k₂
   unfolding supervisor
-  list-on n ns v u c z f ih = go (r .end)
+  list-on n ns v u t c z f ih = go (r .end)
     where
       a₁ : AcceptedMachine (around k₁ v)
-      a₁ = around-accepted k₁ v h₁ (u .accepted) c z
+      a₁ = around-accepted k₁ v h₁ (u .accepted) t c z
 
       a₂ : AcceptedMachine (around k₂ v)
-      a₂ = around-accepted k₂ v h₂ (u .accepted) c z
+      a₂ = around-accepted k₂ v h₂ (u .accepted) t c z
 
       w : Within n (around k₁ v)
       w = first-of n ns (around k₁ v) a₁ f
@@ -260,16 +261,16 @@ module _ (k₁ k₂ : Console) (h₁ : ConsoleIn k₁) (h₂ : ConsoleIn k₂) w
       g = subst (GoesNoFurther ns) (left-is n v k₁ a₁ r) (rest-of n ns (lentOf (around k₁ v)) f)
 
       go : RunEnd n v → UserCalls (n ∷ ns) v k₁ k₂
-      go (in-user u') = on-user n ns v k₁ k₂ a₁ a₂ r h u' (ih (run n v .left) u' (b₁ .cycles-in) (b₁ .none-counted) g)
+      go (in-user u') = on-user n ns v k₁ k₂ a₁ a₂ r h u' (ih (run n v .left) u' (b₁ .timer-in) (b₁ .cycles-in) (b₁ .none-counted) g)
       go (entered l) =
           on-entry n ns v k₁ k₂ a₁ a₂ r h (only-zeros ns (around k₁ (run n v .left)) b₁ (ap (λ (x : Machine). supervisor (x .core .regs)) (l .leaves) ∙ entry-sets (l .last) (l .reached) (l .entry)) g) l (user-run k₁ (l .n) v u (λ i q. w i (let e = l .budget in omega arith)) .is)
 
-  pub user-calls : (ns : List ℕ) (v : Machine) → InUser v → v .cycles < CYCLES-END → v .core .regs .empties ≡ 0 → GoesNoFurther ns (lentOf (around k₁ v)) → UserCalls ns v k₁ k₂
+  pub user-calls : (ns : List ℕ) (v : Machine) → InUser v → TimerIn (v .timer) → v .cycles < CYCLES-END → v .core .regs .empties ≡ 0 → GoesNoFurther ns (lentOf (around k₁ v)) → UserCalls ns v k₁ k₂
   unfolding calls answers
-  user-calls [] v u c z f =
+  user-calls [] v u t c z f =
       let clear : supervisor (v .core .regs) ≡ true → ⊥ = λ s. true≢false (sym s ∙ u .clear) in
       record { after = v; left₁ = refl; left₂ = refl; same = refl; held = held-here v; entry₁ = λ s. absurd (clear s); entry₂ = λ s. absurd (clear s) }
-  user-calls (n ∷ ns) v u c z f = list-on n ns v u c z f (λ w u' c' z' f'. user-calls ns w u' c' z' f')
+  user-calls (n ∷ ns) v u t c z f = list-on n ns v u t c z f (λ w u' t' c' z' f'. user-calls ns w u' t' c' z' f')
 
 -- ---- the theorem
 
@@ -301,9 +302,9 @@ unfolding rowOf
 around-whole k₁ k₂ v a₁ a₂ u ns f =
     let in₁ : ConsoleIn k₁ = marks-in (around k₁ v .console) (k₁ .marks) (a₁ .console-in) in
     let in₂ : ConsoleIn k₂ = marks-in (around k₂ v .console) (k₂ .marks) (a₂ .console-in) in
-    let c = user-calls k₁ k₂ in₁ in₂ ns v u (a₁ .cycles-in) (a₁ .none-counted) f in
+    let c = user-calls k₁ k₂ in₁ in₂ ns v u (a₁ .timer-in) (a₁ .cycles-in) (a₁ .none-counted) f in
     let w = c .after in
-    let alike : Alike (lentOf (around k₁ w)) (lentOf (around k₂ w)) = record { cells = refl; registers = same-row k₁ k₂ w; cycles = refl; pending = refl; fence = refl } in
+    let alike : Alike (lentOf (around k₁ w)) (lentOf (around k₂ w)) = record { cells = refl; registers = same-row k₁ k₂ w; cycles = refl; pending = refl; fence = refl; interval = refl; remaining = refl; mark = refl } in
     record {
       accepted₁ = λ before after e. calls-accepted before (lentOf (around k₁ v)) (machine-accepted (around k₁ v) a₁);
       accepted₂ = λ before after e. calls-accepted before (lentOf (around k₂ v)) (machine-accepted (around k₂ v) a₂);
@@ -313,6 +314,8 @@ around-whole k₁ k₂ v a₁ a₂ u ns f =
       console₂ = subst (λ (x : Lent). SameConsole (lentOf (around k₂ v)) x) (sym (c .left₂)) (same-console k₂ v w);
       fence₁ = ap (λ (x : Lent). at ROW-FENCE (x .row)) (c .left₁) ∙ ap (λ (n : ℕ). pos n) (c .held .fence);
       fence₂ = ap (λ (x : Lent). at ROW-FENCE (x .row)) (c .left₂) ∙ ap (λ (n : ℕ). pos n) (c .held .fence);
+      interval₁ = ap (λ (x : Lent). at ROW-INTERVAL (x .row)) (c .left₁) ∙ ap (λ (n : ℕ). pos n) (c .held .interval);
+      interval₂ = ap (λ (x : Lent). at ROW-INTERVAL (x .row)) (c .left₂) ∙ ap (λ (n : ℕ). pos n) (c .held .interval);
       entry₁ = λ s. c .entry₁ (sym (lent-supervisor (around k₁ w)) ∙ sym (ap lentSupervisor (c .left₁)) ∙ s);
       entry₂ = λ s. c .entry₂ (sym (lent-supervisor (around k₂ w)) ∙ sym (ap lentSupervisor (c .left₂)) ∙ s);
     }
@@ -332,7 +335,7 @@ around-same l₁ l₂ e =
     let p₇ = g 7 (omega arith) (omega arith) in
     let p₈ = g 8 (omega arith) (omega arith) in
     let p₉ = g 9 (omega arith) (omega arith) in
-    λ i. machine (core (e .cells i) (record { a = cell (p₁ i) (p₂ i) (p₃ i); b = cell (p₄ i) (p₅ i) (p₆ i); pc = natAbs (p₇ i); sp = natAbs (p₈ i); sr = p₉ i; empties = 0 })) (natAbs (e .cycles i)) (console (lentMachine l₂ .console) (eqZ (e .pending i) (pos 1))) (natAbs (e .fence i))
+    λ i. machine (core (e .cells i) (record { a = cell (p₁ i) (p₂ i) (p₃ i); b = cell (p₄ i) (p₅ i) (p₆ i); pc = natAbs (p₇ i); sp = natAbs (p₈ i); sr = p₉ i; empties = 0 })) (natAbs (e .cycles i)) (console (lentMachine l₂ .console) (eqZ (e .pending i) (pos 1))) (natAbs (e .fence i)) (timed (natAbs (e .interval i)) (natAbs (e .remaining i)) (eqZ (e .mark i) (pos 1)))
 
 pub user-mode : UserMode
 unfolding lentSupervisor supervisor machineOf

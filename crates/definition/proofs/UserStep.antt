@@ -14,12 +14,14 @@ use Rattle.definition.specs.Exception.{Ending, exception, stop, ending, 
 use Rattle.definition.specs.Memory.{word, cellCount, cellAt}
 use Rattle.definition.specs.Registers.{supervisor, interruptEnable}
 use Rattle.definition.specs.Io.{Console, with-marks, with-pending}
+use Rattle.definition.specs.Timer.{with-timer-mark, tick, tickEntry}
 use Rattle.definition.specs.Exec.{Core, with-cells, Res, ok, err}
 use Rattle.definition.specs.Instructions.{Request, nothing}
-use Rattle.definition.specs.Runtime.{Machine, with-core, with-cycles, with-console, with-mark, Executed, attempt, Turn, completes, enters, stops, ends, poll, conclude, serve, afterAttempt, guard, turn, Outcome, completed, stopped, hasHandler, saved, enteredSr, enteredRegisters, enteredCore, entered, recover, settle, reached, limit, step}
+use Rattle.definition.specs.Runtime.{Machine, with-core, with-cycles, with-console, with-timer, with-mark, executed, Executed, attempt, Turn, completes, enters, stops, ends, poll, conclude, serve, afterAttempt, guard, turn, Outcome, completed, stopped, hasHandler, saved, enteredSr, enteredRegisters, enteredCore, entered, recover, elapsed, elapses, settle, reached, limit, step}
 use Rattle.definition.specs.Accepted.{Sound, AcceptedCore}
 use Rattle.definition.proofs.Bits.{put-same, put-other}
 use Rattle.definition.proofs.Cells.{count-put, cell-same, cell-other}
+use Rattle.definition.proofs.Verdict.{and-left}
 use Rattle.definition.proofs.Keeps.{Good, attempt-keeps}
 use Rattle.definition.proofs.AcceptedCore.{User, InUser, Silent, user-laws, accepted-put, with-registers, word-sound}
 
@@ -57,21 +59,29 @@ ends-is k (stop n d) m = refl
 
 poll-is : (k : Console) (m : Machine) → poll (around k m) ≡ turnAround k (poll m)
 unfolding poll
-poll-is k m = go (interruptEnable (m .core .regs) && m .console .marks .pending)
+poll-is k m = go (interruptEnable (m .core .regs) && m .console .marks .pending) (interruptEnable (m .core .regs) && m .timer .mark)
   where
-    go : (b : Bool) → cond b (enters HARDWARE-INTERRUPT (around k (with-mark false m))) (completes (around k m)) ≡ turnAround k (cond b (enters HARDWARE-INTERRUPT (with-mark false m)) (completes m))
-    go true = refl
-    go false = refl
+    took : Machine
+    took = with-timer (with-timer-mark false (m .timer)) m
 
--- it asks nothing of the console
-pub serve-nothing : (m : Machine) (q : Request) (cost : ℕ) (c : Core) → Silent q → serve m q cost c ≡ poll (with-cycles (m .cycles + cost) (with-core c m))
+    go : (b t : Bool) → cond b (enters HARDWARE-INTERRUPT (around k (with-mark false m))) (cond t (enters HARDWARE-INTERRUPT (around k took)) (completes (around k m))) ≡ turnAround k (cond b (enters HARDWARE-INTERRUPT (with-mark false m)) (cond t (enters HARDWARE-INTERRUPT took) (completes m)))
+    go true t = refl
+    go false true = refl
+    go false false = refl
+
+-- the machine that polls after a completed instruction
+abbrev pub ticked : ℕ → Core → Machine → Machine
+ticked cost c m = with-timer (tick cost (m .timer)) (executed cost c m)
+
+-- it asks nothing of console and timer
+pub serve-nothing : (m : Machine) (q : Request) (cost : ℕ) (c : Core) → Silent q → serve m q cost c ≡ poll (ticked cost c m)
 unfolding serve conclude
 serve-nothing m q cost c e = ap (λ q. serve m q cost c) e
 
 after-is : (k : Console) (m : Machine) (r : Res Executed) → GoodUser (m .fence) r → afterAttempt (around k m) r ≡ turnAround k (afterAttempt m r)
 unfolding afterAttempt
 after-is k m (ok x c) g =
-    serve-nothing (around k m) (x .request) (x .cost) c (g .0) ∙ poll-is k (with-cycles (m .cycles + x .cost) (with-core c m)) ∙ sym (ap (turnAround k) (serve-nothing m (x .request) (x .cost) c (g .0)))
+    serve-nothing (around k m) (x .request) (x .cost) c (g .0) ∙ poll-is k (ticked (x .cost) c m) ∙ sym (ap (turnAround k) (serve-nothing m (x .request) (x .cost) c (g .0)))
 after-is k m (err e c) g = ends-is k (ending e) (with-core c m)
 
 pub turn-is : (k : Console) (m : Machine) → InUser m → turn (around k m) ≡ turnAround k (turn m)
@@ -79,11 +89,11 @@ unfolding turn guard
 turn-is k m u = after-is k m (attempt (guard m) (m .core)) (attempt-user (guard m) (m .fence) (m .core) u)
 
 settle-is : (k : Console) (t : Turn) → settle (turnAround k t) ≡ outcomeAround k (settle t)
-unfolding settle recover entered
+unfolding settle recover entered elapses
 settle-is k (completes m) = refl
 settle-is k (enters n m) = go (hasHandler (m .core .cells))
   where
-    go : (b : Bool) → cond b (completed (entered n (around k m))) (stopped NO-HANDLER n (around k m)) ≡ outcomeAround k (cond b (completed (entered n m)) (stopped NO-HANDLER n m))
+    go : (b : Bool) → elapses n (cond b (completed (entered n (around k m))) (stopped NO-HANDLER n (around k m))) ≡ outcomeAround k (elapses n (cond b (completed (entered n m)) (stopped NO-HANDLER n m)))
     go true = refl
     go false = refl
 settle-is k (stops n d m) = refl
@@ -116,7 +126,7 @@ pub record Entered (m m' : Machine) : Type 0 where
   pub small : code ≤ 5
   pub handler : hasHandler (moment .core .cells) ≡ true
   pub taken : code ≡ 0 → moment .console .marks .pending ≡ false
-  pub leaves : m' ≡ entered code moment
+  pub leaves : m' ≡ elapsed code (entered code moment)
 
 pub data Ends (m m' : Machine) : Type 0 where
   stays : InUser m' → Ends m m'
@@ -148,24 +158,35 @@ ending-ends Reset m u = u
 
 poll-ends : (m : Machine) → InUser m → TurnEnds (poll m)
 unfolding poll
-poll-ends m u = go (interruptEnable (m .core .regs) && m .console .marks .pending)
+poll-ends m u = go (i && p) refl (i && t) refl
   where
-    go : (b : Bool) → TurnEnds (cond b (enters HARDWARE-INTERRUPT (with-mark false m)) (completes m))
-    go true = (u, (omega arith, λ h. refl))
-    go false = u
+    i : Bool
+    i = interruptEnable (m .core .regs)
+
+    p : Bool
+    p = m .console .marks .pending
+
+    t : Bool
+    t = m .timer .mark
+
+    -- the timer's mark is taken where I is set, so the console's was clear
+    go : (b : Bool) → i && p ≡ b → (d : Bool) → i && t ≡ d → TurnEnds (cond b (enters HARDWARE-INTERRUPT (with-mark false m)) (cond d (enters HARDWARE-INTERRUPT (with-timer (with-timer-mark false (m .timer)) m)) (completes m)))
+    go true e d f = (u, (omega arith, λ h. refl))
+    go false e true f = (u, (omega arith, λ h. ap (λ (x : Bool). x && p) (sym (and-left i t f)) ∙ e))
+    go false e false f = u
 
 after-ends : (m : Machine) (r : Res Executed) → GoodUser (m .fence) r → TurnEnds (afterAttempt m r)
 unfolding afterAttempt
 after-ends m (ok x c) g =
-    subst TurnEnds (sym (serve-nothing m (x .request) (x .cost) c (g .0))) (poll-ends (with-cycles (m .cycles + x .cost) (with-core c m)) (g .1))
+    subst TurnEnds (sym (serve-nothing m (x .request) (x .cost) c (g .0))) (poll-ends (ticked (x .cost) c m) (g .1))
 after-ends m (err e c) g = ending-ends e (with-core c m) g
 
 settle-ends : (m : Machine) (t : Turn) → turn m ≡ t → TurnEnds t → OutcomeEnds m (settle t)
-unfolding settle recover
+unfolding settle recover elapses
 settle-ends m (completes w) h e = stays e
 settle-ends m (enters k w) h e = go (hasHandler (w .core .cells)) refl
   where
-    go : (b : Bool) → hasHandler (w .core .cells) ≡ b → OutcomeEnds m (cond b (completed (entered k w)) (stopped NO-HANDLER k w))
+    go : (b : Bool) → hasHandler (w .core .cells) ≡ b → OutcomeEnds m (elapses k (cond b (completed (entered k w)) (stopped NO-HANDLER k w)))
     go true t =
         entry (record { code = k; moment = w; turns = h; user = e .0; small = e .1 .0; handler = t; taken = e .1 .1; leaves = refl })
     go false t = e .0

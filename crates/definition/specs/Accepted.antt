@@ -8,14 +8,15 @@ use Prim.Native.Nat.{ℕ, suc, _*_, _%_, _^_, _<_, _≤_}
 use lib.IntN.{ℤ, pos, natAbs}
 use lib.ListN.{length}
 use Rattle.definition.specs.declared.Cell.{Cell}
-use Rattle.definition.specs.Constants.{CELLS-LEAST, CELLS-MOST, QUEUE-MOST, OUTPUT-MOST, CYCLES-END, ROW, ROW-A, ROW-B, ROW-PC, ROW-SP, ROW-CYCLES, ROW-ENABLE, ROW-FLAG, ROW-PENDING, ROW-START, ROW-COUNT, ROW-WRITTEN, ROW-FENCE}
+use Rattle.definition.specs.declared.Timer.{Timer}
+use Rattle.definition.specs.Constants.{CELLS-LEAST, CELLS-MOST, QUEUE-MOST, OUTPUT-MOST, CYCLES-END, ROW, ROW-A, ROW-B, ROW-PC, ROW-SP, ROW-CYCLES, ROW-ENABLE, ROW-FLAG, ROW-PENDING, ROW-START, ROW-COUNT, ROW-WRITTEN, ROW-FENCE, ROW-INTERVAL, ROW-REMAINING, ROW-MARK}
 use Rattle.definition.specs.Word.{eqZ}
 use Rattle.definition.specs.Memory.{cellCount, cellAt}
 use Rattle.definition.specs.Encoding.{sound}
 use Rattle.definition.specs.Io.{Console}
 use Rattle.definition.specs.Exec.{Core}
 use Rattle.definition.specs.Runtime.{Machine}
-use Rattle.definition.specs.Calls.{at, cellOfRow, mark, lowestDamaged, Lent, runCall, fresh, deliver, drain, load, setRegister, raise}
+use Rattle.definition.specs.Calls.{at, cellOfRow, numberOfRow, mark, lowestDamaged, Lent, runCall, fresh, deliver, drain, load, setRegister, raise}
 use Rattle.definition.specs.UserMode.{Accepted}
 
 -- ---- an accepted machine: what the tests of run say, as facts
@@ -49,6 +50,9 @@ pub record RowFits (q o n : ℕ) (row : List ℤ) : Type 0 where
   pub count : Below (suc q) (at ROW-COUNT row)
   pub written : Below (suc o) (at ROW-WRITTEN row)
   pub fence : Below (suc n) (at ROW-FENCE row)
+  pub interval : Below CYCLES-END (at ROW-INTERVAL row)
+  pub remaining : Below (suc (numberOfRow ROW-INTERVAL row)) (at ROW-REMAINING row)
+  pub mark : IsMark (at ROW-MARK row)
 
 -- The cells' and the queue's lengths.
 pub record CellsFit (cells : List ℤ) : Type 0 where
@@ -88,10 +92,15 @@ pub record ConsoleIn (k : Console) : Type 0 where
   pub count-in : k .count ≤ length (k .queue)
   pub written-in : k .written ≤ length (k .output)
 
+pub record TimerIn (t : Timer) : Type 0 where
+  pub interval-in : t .interval < CYCLES-END
+  pub remaining-in : t .remaining ≤ t .interval
+
 pub record AcceptedMachine (m : Machine) : Type 0 where
   pub core-in : AcceptedCore (m .fence) (m .core)
   pub cycles-in : m .cycles < CYCLES-END
   pub console-in : ConsoleIn (m .console)
+  pub timer-in : TimerIn (m .timer)
   -- Between steps nothing is counted: the row has no place for it.
   pub none-counted : m .core .regs .empties ≡ 0
 

@@ -12,11 +12,12 @@ use Rattle.definition.specs.declared.Ran.{Ran}
 use Rattle.definition.specs.declared.Drained.{Drained}
 use Rattle.definition.specs.declared.CellRead.{CellRead}
 use Rattle.definition.specs.declared.Raised.{Raised}
-use Rattle.definition.specs.Constants.{SUPERVISOR, CELLS-LEAST, CELLS-MOST, QUEUE-MOST, OUTPUT-MOST, CYCLES-END, ROW, ROW-A, ROW-B, ROW-PC, ROW-SP, ROW-SR, ROW-CYCLES, ROW-ENABLE, ROW-FLAG, ROW-PENDING, ROW-START, ROW-COUNT, ROW-WRITTEN, ROW-FENCE}
+use Rattle.definition.specs.Constants.{SUPERVISOR, CELLS-LEAST, CELLS-MOST, QUEUE-MOST, OUTPUT-MOST, CYCLES-END, ROW, ROW-A, ROW-B, ROW-PC, ROW-SP, ROW-SR, ROW-CYCLES, ROW-ENABLE, ROW-FLAG, ROW-PENDING, ROW-START, ROW-COUNT, ROW-WRITTEN, ROW-FENCE, ROW-INTERVAL, ROW-REMAINING, ROW-MARK}
 use Rattle.definition.specs.Word.{eqZ, addressOf, bit}
 use Rattle.definition.specs.Memory.{cell, empty, word, cellCount, cellAt}
 use Rattle.definition.specs.Encoding.{sound, isAddress}
 use Rattle.definition.specs.Io.{marked, delivered, putBytes, firstFree, drained}
+use Rattle.definition.specs.Timer.{timed}
 use Rattle.definition.specs.Exec.{core}
 use Rattle.definition.specs.Runtime.{Machine, machine, Run, run, Outcome, completed, stopped, recover, limit}
 
@@ -51,12 +52,13 @@ machineOf cells queue output row =
     (numberOfRow ROW-CYCLES row)
     (record { marks = marked (markOfRow ROW-ENABLE row) (markOfRow ROW-FLAG row) (markOfRow ROW-PENDING row); queue = queue; start = numberOfRow ROW-START row; count = numberOfRow ROW-COUNT row; output = output; written = numberOfRow ROW-WRITTEN row })
     (numberOfRow ROW-FENCE row)
+    (timed (numberOfRow ROW-INTERVAL row) (numberOfRow ROW-REMAINING row) (markOfRow ROW-MARK row))
 
 unfoldable pub rowOf : Machine → List ℤ
 rowOf m =
     let s = m .core .regs in
     let k = m .console in
-    s .a .tag ∷ s .a .first ∷ s .a .second ∷ s .b .tag ∷ s .b .first ∷ s .b .second ∷ pos (s .pc) ∷ pos (s .sp) ∷ s .sr ∷ pos (m .cycles) ∷ mark (k .marks .enable) ∷ mark (k .marks .flag) ∷ mark (k .marks .pending) ∷ pos (k .start) ∷ pos (k .count) ∷ pos (k .written) ∷ pos (m .fence) ∷ []
+    s .a .tag ∷ s .a .first ∷ s .a .second ∷ s .b .tag ∷ s .b .first ∷ s .b .second ∷ pos (s .pc) ∷ pos (s .sp) ∷ s .sr ∷ pos (m .cycles) ∷ mark (k .marks .enable) ∷ mark (k .marks .flag) ∷ mark (k .marks .pending) ∷ pos (k .start) ∷ pos (k .count) ∷ pos (k .written) ∷ pos (m .fence) ∷ pos (m .timer .interval) ∷ pos (m .timer .remaining) ∷ mark (m .timer .mark) ∷ []
 
 -- ---- what is turned back (document 01's term): a test, and the number and place given where it fails
 
@@ -111,7 +113,7 @@ queueTest queue = test 2 0 (leb 1 (length queue) && leb (length queue) QUEUE-MOS
 unfoldable pub outputTest : List ℕ → Test
 outputTest output = test 3 0 (leb (length output) OUTPUT-MOST)
 
--- "4. The row is not 16 long", and "Refusal 4 now wants 17 numbers."
+-- "4. The row is not 16 long", with the fence 17, and with the timer "20 numbers"
 unfoldable pub lengthTest : List ℤ → Test
 lengthTest row = test 4 0 (eqb (length row) ROW)
 
@@ -132,6 +134,9 @@ rowTests q o n row =
     ∷ test 4 ROW-COUNT (isBelow (suc q) (at ROW-COUNT row))
     ∷ test 4 ROW-WRITTEN (isBelow (suc o) (at ROW-WRITTEN row))
     ∷ test 4 ROW-FENCE (isBelow (suc n) (at ROW-FENCE row))
+    ∷ test 4 ROW-INTERVAL (isBelow CYCLES-END (at ROW-INTERVAL row))
+    ∷ test 4 ROW-REMAINING (isBelow (suc (numberOfRow ROW-INTERVAL row)) (at ROW-REMAINING row))
+    ∷ test 4 ROW-MARK (isMark (at ROW-MARK row))
     ∷ []
 
 -- "5. The cell at this lowest address is damaged"

@@ -22,6 +22,13 @@ SERIAL-STATUS-PORT = 110
 abbrev pub SERIAL-DATA-PORT : ℕ
 SERIAL-DATA-PORT = 111
 
+-- "A timer on ports 120 and 121"
+abbrev pub TIMER-INTERVAL-PORT : ℕ
+TIMER-INTERVAL-PORT = 120
+
+abbrev pub TIMER-REMAINING-PORT : ℕ
+TIMER-REMAINING-PORT = 121
+
 -- The flags' bits in the status word: "five different single bits at the positions of `StatusRegister`".
 abbrev pub ZERO : ℕ
 ZERO = 1
@@ -59,7 +66,7 @@ CYCLES-END = 2 ^ 63
 -- "Row of 16 numbers: a (3), b (3), pc, sp, sr, cycles [...], enable, flag, pending [...], queue start [...], queue count, output count": how
 -- many, and each one's place, from 1.
 abbrev pub ROW : ℕ
-ROW = 17
+ROW = 20
 
 abbrev pub ROW-A : ℕ
 ROW-A = 1
@@ -100,3 +107,13 @@ ROW-WRITTEN = 16
 -- "a seventeenth number, the fence"
 abbrev pub ROW-FENCE : ℕ
 ROW-FENCE = 17
+
+-- "The row gains interval (0 or more), remaining (0 to the interval) and mark (0 or 1)"
+abbrev pub ROW-INTERVAL : ℕ
+ROW-INTERVAL = 18
+
+abbrev pub ROW-REMAINING : ℕ
+ROW-REMAINING = 19
+
+abbrev pub ROW-MARK : ℕ
+ROW-MARK = 20

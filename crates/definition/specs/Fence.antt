@@ -10,7 +10,7 @@ use lib.IntN.{ℤ}
 use Rattle.definition.specs.Constants.{INTERRUPT-PC-SAVE, INTERRUPT-SR-SAVE, INTERRUPT-EXCEPTION, INTERRUPT-HANDLER, ROW-FENCE}
 use Rattle.definition.specs.Memory.{cellCount, cellAt}
 use Rattle.definition.specs.Registers.{supervisor}
-use Rattle.definition.specs.Runtime.{Machine, turn, enters, completed, hasHandler, entered, reached, step, uncounted}
+use Rattle.definition.specs.Runtime.{Machine, turn, enters, completed, hasHandler, entered, elapsed, reached, step, uncounted}
 use Rattle.definition.specs.Calls.{Lent, lentSupervisor, at, numberOfRow, calls}
 use Rattle.definition.specs.UserMode.{Accepted, GoesNoFurther, Entry}
 use Rattle.definition.specs.Accepted.{AcceptedMachine}
@@ -42,7 +42,7 @@ pub record EntersHandler (m : Machine) : Type 0 where
   pub moment : Machine
   pub turns : turn m ≡ enters code moment
   pub handler : hasHandler (moment .core .cells) ≡ true
-  pub leaves : step m ≡ completed (entered code moment)
+  pub leaves : step m ≡ completed (elapsed code (entered code moment))
 
 pub record FencedSteps (m : Machine) (n : ℕ) : Type 0 where
   pub fence : steps n m .fence ≡ m .fence

@@ -7,6 +7,7 @@ pub mod Registers
 pub mod Arguments
 pub mod Encoding
 pub mod Io
+pub mod Timer
 pub mod Exec
 pub mod Instructions
 pub mod Runtime

@@ -3,10 +3,11 @@ use mathlib.Core.Bool.{Bool, true, false, cond, _&&_}
 use mathlib.Core.List.{List}
 use Prim.Native.Nat.{ℕ, zero, suc, _+_}
 use lib.IntN.{ℤ, pos}
-use lib.Dec.{ltb}
+use lib.Dec.{ltb, eqb}
 use Rattle.definition.specs.declared.Registers.{Registers}
+use Rattle.definition.specs.declared.Timer.{Timer}
 use Rattle.definition.specs.declared.Error.the-variants.{InvalidInstruction, InvalidMemoryAccess}
-use Rattle.definition.specs.Constants.{INTERRUPT-PC-SAVE, INTERRUPT-SR-SAVE, INTERRUPT-EXCEPTION, INTERRUPT-HANDLER, INTERRUPT-ENABLE, SUPERVISOR, CYCLES-END}
+use Rattle.definition.specs.Constants.{INTERRUPT-PC-SAVE, INTERRUPT-SR-SAVE, INTERRUPT-EXCEPTION, INTERRUPT-HANDLER, INTERRUPT-ENABLE, SUPERVISOR, CYCLES-END, TIMER-INTERVAL-PORT}
 use Rattle.definition.specs.Word.{putBit}
 use Rattle.definition.specs.Total.{total}
 use Rattle.definition.specs.Exception.{Ending, exception, stop, ending, HARDWARE-INTERRUPT, BUDGET-SPENT, NO-HANDLER, OUTPUT-FULL, CYCLES-FULL}
@@ -14,28 +15,33 @@ use Rattle.definition.specs.Memory.{word, cellAt, putCell, isInstruction
 use Rattle.definition.specs.Registers.{with-pc, with-sr, with-empties, supervisor, interruptEnable}
 use Rattle.definition.specs.Encoding.{Instruction, Extracted, instruction, noInstruction, extractInstruction}
 use Rattle.definition.specs.Io.{Console, with-marks, with-pending, readPort, writePort, outputFull}
+use Rattle.definition.specs.Timer.{with-timer-mark, setTimer, tick, tickEntry, readTimer}
 use Rattle.definition.specs.Exec.{Core, with-regs, with-cells, Exec, Res, ok, err, _>>=_, _>>_, return, raise, ask, change, read}
 use Rattle.definition.specs.Instructions.{Request, nothing, reads, writes, execute, setRegister}
 
--- The whole computer: cells and registers, cycles, console, fence.
+-- The whole computer: cells and registers, cycles, console, fence, timer.
 pub record Machine : Type 0 where
   pub core : Core
   pub cycles : ℕ
   pub console : Console
   pub fence : ℕ
+  pub timer : Timer
 
-abbrev pub machine : Core → ℕ → Console → ℕ → Machine
-machine c n k f = record { core = c; cycles = n; console = k; fence = f }
+abbrev pub machine : Core → ℕ → Console → ℕ → Timer → Machine
+machine c n k f t = record { core = c; cycles = n; console = k; fence = f; timer = t }
 
 -- One part changed.
 abbrev pub with-core : Core → Machine → Machine
-with-core c m = machine c (m .cycles) (m .console) (m .fence)
+with-core c m = machine c (m .cycles) (m .console) (m .fence) (m .timer)
 
 abbrev pub with-cycles : ℕ → Machine → Machine
-with-cycles n m = machine (m .core) n (m .console) (m .fence)
+with-cycles n m = machine (m .core) n (m .console) (m .fence) (m .timer)
 
 abbrev pub with-console : Console → Machine → Machine
-with-console k m = machine (m .core) (m .cycles) k (m .fence)
+with-console k m = machine (m .core) (m .cycles) k (m .fence) (m .timer)
+
+abbrev pub with-timer : Timer → Machine → Machine
+with-timer t m = machine (m .core) (m .cycles) (m .console) (m .fence) t
 
 -- The console's pending mark given another value.
 abbrev pub with-mark : Bool → Machine → Machine
@@ -79,26 +85,35 @@ unfoldable pub ends : Ending → Machine → Turn
 ends (exception k) m = enters k m
 ends (stop n d) m = stops n d m
 
--- "then, if I is set, the pending mark is taken and, if it was set, code 0 is entered"
+-- "then, if I is set, the pending mark is taken and, if it was set, code 0 is entered". "The poll takes the console's mark first and
+-- otherwise the timer's."
 unfoldable pub poll : Machine → Turn
 poll m =
     cond
     (interruptEnable (m .core .regs) && m .console .marks .pending)
     (enters HARDWARE-INTERRUPT (with-mark false m))
-    (completes m)
+    (cond (interruptEnable (m .core .regs) && m .timer .mark) (enters HARDWARE-INTERRUPT (with-timer (with-timer-mark false (m .timer)) m)) (completes m))
 
--- "After a completed instruction its cost is added". "An exception step doesn't poll."
+-- "After a completed instruction its cost is added".
+abbrev pub executed : ℕ → Core → Machine → Machine
+executed cost c m = with-cycles (m .cycles + cost) (with-core c m)
+
+-- "each completed instruction, before the poll, takes its cost off what remains". "An exception step doesn't poll."
 unfoldable pub conclude : ℕ → Machine → Res (Unit {0}) → Turn
-conclude cost m (ok u c) = poll (with-cycles (m .cycles + cost) (with-core c m))
+conclude cost m (ok u c) = poll (with-timer (tick cost (m .timer)) (executed cost c m))
 conclude cost m (err e c) = ends (ending e) (with-core c m)
 
--- The console serves what the instruction asks; m is the machine before the step.
+-- The console or the timer serves what the instruction asks; m is the machine before the step. "A step that writes port 120 takes nothing
+-- off."
 unfoldable pub serve : Machine → Request → ℕ → Core → Turn
 serve m nothing cost c = conclude cost m (ok tt c)
 serve m (reads p r) cost c =
-    conclude cost (with-console (readPort p (m .console) .1) m) (setRegister r (word (pos (readPort p (m .console) .0))) c)
+    conclude cost (with-console (readPort p (m .console) .1) m) (setRegister r (word (pos (readTimer p (m .timer) (readPort p (m .console) .0)))) c)
 serve m (writes p w) cost c =
-    cond (outputFull p (m .console)) (stops OUTPUT-FULL 0 m) (conclude cost (with-console (writePort p w (m .console)) m) (ok tt c))
+    cond
+    (outputFull p (m .console))
+    (stops OUTPUT-FULL 0 m)
+    (cond (eqb p TIMER-INTERVAL-PORT) (poll (with-timer (setTimer w (m .timer)) (executed cost c m))) (conclude cost (with-console (writePort p w (m .console)) m) (ok tt c)))
 
 unfoldable pub afterAttempt : Machine → Res Executed → Turn
 afterAttempt m (ok x c) = serve m (x .request) (x .cost) c
@@ -148,9 +163,17 @@ entered k m = with-cycles (suc (m .cycles)) (with-core (enteredCore k (m .core))
 unfoldable pub recover : ℕ → Machine → Outcome
 recover k m = cond (hasHandler (m .core .cells)) (completed (entered k m)) (stopped NO-HANDLER k m)
 
+-- In a step, entry takes its cycle off the timer; by raise it "takes off none", and where there is no handler nothing is taken off.
+abbrev pub elapsed : ℕ → Machine → Machine
+elapsed k m = with-timer (tickEntry k (m .timer)) m
+
+unfoldable pub elapses : ℕ → Outcome → Outcome
+elapses k (completed m) = completed (elapsed k m)
+elapses k (stopped n d m) = stopped n d m
+
 unfoldable pub settle : Turn → Outcome
 settle (completes m) = completed m
-settle (enters k m) = recover k m
+settle (enters k m) = elapses k (recover k m)
 settle (stops n d m) = stopped n d m
 
 -- ---- a step

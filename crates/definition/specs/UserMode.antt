@@ -4,10 +4,10 @@ use mathlib.Core.Bool.{true, false}
 use mathlib.Core.List.{List, [], _∷_, _++_}
 use Prim.Native.Nat.{ℕ, suc, _<_, _≤_}
 use lib.IntN.{pos}
-use Rattle.definition.specs.Constants.{ROW-A, ROW-PC, ROW-SR, ROW-CYCLES, ROW-ENABLE, ROW-FLAG, ROW-PENDING, ROW-START, ROW-COUNT, ROW-WRITTEN, ROW-FENCE}
+use Rattle.definition.specs.Constants.{ROW-A, ROW-PC, ROW-SR, ROW-CYCLES, ROW-ENABLE, ROW-FLAG, ROW-PENDING, ROW-START, ROW-COUNT, ROW-WRITTEN, ROW-FENCE, ROW-INTERVAL, ROW-REMAINING, ROW-MARK}
 use Rattle.definition.specs.Memory.{word, cellAt, isInstruction}
 use Rattle.definition.specs.Registers.{supervisor}
-use Rattle.definition.specs.Runtime.{Machine, turn, enters, entered, enteredSr, uncounted}
+use Rattle.definition.specs.Runtime.{Machine, turn, enters, entered, enteredSr, elapsed, uncounted}
 use Rattle.definition.specs.Calls.{Lent, lentMachine, lentSupervisor, at, passes, runCheck, runCall, calls, answers}
 
 -- "Accepted: run doesn't refuse it."
@@ -23,6 +23,10 @@ pub record Alike (l₁ l₂ : Lent) : Type 0 where
   pub pending : at ROW-PENDING (l₁ .row) ≡ at ROW-PENDING (l₂ .row)
   -- "for the user-mode pairing the two fences are equal"
   pub fence : at ROW-FENCE (l₁ .row) ≡ at ROW-FENCE (l₂ .row)
+  -- "Machines paired for the user-mode statement agree in all three before and after"
+  pub interval : at ROW-INTERVAL (l₁ .row) ≡ at ROW-INTERVAL (l₂ .row)
+  pub remaining : at ROW-REMAINING (l₁ .row) ≡ at ROW-REMAINING (l₂ .row)
+  pub mark : at ROW-MARK (l₁ .row) ≡ at ROW-MARK (l₂ .row)
 
 -- The console, pending mark aside: enable, flag, queue start, both counts and every byte of queue and output record.
 pub record SameConsole (l l' : Lent) : Type 0 where
@@ -62,7 +66,7 @@ pub record Entry (ns : List ℕ) (l : Lent) : Type 0 where
   pub code : ℕ
   pub moment : Machine
   pub turns : turn (lentMachine last) ≡ enters code moment
-  pub leaves : lentMachine (calls ns l) ≡ uncounted (entered code moment)
+  pub leaves : lentMachine (calls ns l) ≡ uncounted (elapsed code (entered code moment))
   -- "ends at pc 200, an instruction there, with the pc and status word of the moment of entry in cells 100 and 101, supervisor clear in
   -- that word, and a code 0 to 5 in cell 102"
   pub pc : at ROW-PC (calls ns l .row) ≡ pos 200
@@ -74,7 +78,7 @@ pub record Entry (ns : List ℕ) (l : Lent) : Type 0 where
   pub small : code ≤ 5
   -- "sr is then the word in cell 101 with S set and, for code 0, I clear"
   pub sr : at ROW-SR (calls ns l .row) ≡ enteredSr code (cellAt (calls ns l .cells) 101 .first)
-  -- Code 0 took the pending mark.
+  -- Code 0 took the pending mark, or it was clear and the timer's was taken.
   pub taken : code ≡ 0 → at ROW-PENDING (calls ns l .row) ≡ pos 0
 
 pub record Whole (l₁ l₂ : Lent) (ns : List ℕ) : Type 0 where
@@ -92,6 +96,9 @@ pub record Whole (l₁ l₂ : Lent) (ns : List ℕ) : Type 0 where
   -- and so is each fence, which no step writes
   pub fence₁ : at ROW-FENCE (calls ns l₁ .row) ≡ at ROW-FENCE (l₁ .row)
   pub fence₂ : at ROW-FENCE (calls ns l₂ .row) ≡ at ROW-FENCE (l₂ .row)
+  -- "and the interval stays"
+  pub interval₁ : at ROW-INTERVAL (calls ns l₁ .row) ≡ at ROW-INTERVAL (l₁ .row)
+  pub interval₂ : at ROW-INTERVAL (calls ns l₂ .row) ≡ at ROW-INTERVAL (l₂ .row)
   -- "The step that sets the bit", in each of the two
   pub entry₁ : lentSupervisor (calls ns l₁) ≡ true → Entry ns l₁
   pub entry₂ : lentSupervisor (calls ns l₂) ≡ true → Entry ns l₂

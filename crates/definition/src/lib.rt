@@ -26,6 +26,13 @@ pub struct Marks {
     pub pending: bool,
 }
 
+// The timer: its interval, 0 where it is off, what remains of it, and its mark. Both numbers are below 2^63.
+pub struct Timer {
+    pub interval: u64,
+    pub remaining: u64,
+    pub mark: bool,
+}
+
 // The word that a cell gives, if it does. Empty reads as word 0, and is told apart.
 pub enum Word {
     Is(i64),

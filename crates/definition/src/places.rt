@@ -1,6 +1,6 @@
-// The row of 17 numbers (document 01, "Cells and row"; document 02, Card 5): its length, and where each number or cell begins, from 0.
+// The row of 20 numbers (document 01, "Cells and row"; document 02, Cards 5 and 14): its length, and where each number or cell begins, from 0.
 
-pub const ROW: usize = 17;
+pub const ROW: usize = 20;
 
 pub const A: usize = 0;
 
@@ -28,7 +28,13 @@ pub const WRITTEN: usize = 15;
 
 pub const FENCE: usize = 16;
 
-// The same places as a refusal names them, from 1: the definition's ROW-A to ROW-FENCE. No refusal names sr.
+pub const INTERVAL: usize = 17;
+
+pub const REMAINING: usize = 18;
+
+pub const MARK: usize = 19;
+
+// The same places as a refusal names them, from 1: the definition's ROW-A to ROW-MARK. No refusal names sr.
 
 pub const ROW_A: u64 = A as u64 + 1;
 
@@ -53,3 +59,9 @@ pub const ROW_COUNT: u64 = COUNT as u64 + 1;
 pub const ROW_WRITTEN: u64 = WRITTEN as u64 + 1;
 
 pub const ROW_FENCE: u64 = FENCE as u64 + 1;
+
+pub const ROW_INTERVAL: u64 = INTERVAL as u64 + 1;
+
+pub const ROW_REMAINING: u64 = REMAINING as u64 + 1;
+
+pub const ROW_MARK: u64 = MARK as u64 + 1;

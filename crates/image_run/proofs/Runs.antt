@@ -12,6 +12,7 @@ use Rattle.definition.specs.Word.{addressOf}
 use Rattle.definition.specs.Memory.{empty, cellCount, cellAt}
 use Rattle.definition.specs.Encoding.{sound, soundAt, isAddress}
 use Rattle.definition.specs.Io as I
+use Rattle.definition.specs.Timer.{timed}
 use Rattle.definition.specs.Exec.{core}
 use Rattle.definition.specs.Runtime.{Machine, machine, run}
 use Rattle.definition.specs.Calls.{Called, Lent, lent, lentOf, rowOf, ran, runCall}
@@ -25,10 +26,10 @@ use Rattle.lines.specs.Grammar as G
 use Rattle.lines.proofs.Complete.{startOf}
 use Rattle.image_run.specs.Image.{imageRow, imageRun}
 
--- The machine that an image starts: a and b empty, no cycle, nothing on the console, no fence.
+-- The machine that an image starts: a and b empty, no cycle, nothing on the console, no fence, the timer off.
 abbrev pub startMachine : List ℤ → ℕ → ℕ → ℤ → Machine
 startMachine cells pc sp sr =
-    machine (core cells (record { a = empty; b = empty; pc = pc; sp = sp; sr = sr; empties = 0 })) 0 (record { marks = I.marked false false false; queue = replicate 256 0; start = 0; count = 0; output = replicate 4096 0; written = 0 }) 0
+    machine (core cells (record { a = empty; b = empty; pc = pc; sp = sp; sr = sr; empties = 0 })) 0 (record { marks = I.marked false false false; queue = replicate 256 0; start = 0; count = 0; output = replicate 4096 0; written = 0 }) 0 (timed 0 0 false)
 
 empty-sound : Sound empty
 unfolding sound soundAt
@@ -61,7 +62,7 @@ start-accepted {pc = pc} {sp} {sr} (G.image (G.startLine ra rb rc okPc okSp) cs)
     let p = address-in pc okPc in
     let q = address-in sp okSp in
     let c = empty-core 2048 (omega arith) (omega arith) s (p .1) (q .1) empty-sound empty-sound in
-    record { core-in = lines-accepted s cs c refl .0; cycles-in = omega arith; console-in = record { some = omega arith; few = omega arith; small = omega arith; start-in = omega arith; count-in = omega arith; written-in = omega arith }; none-counted = refl }
+    record { core-in = lines-accepted s cs c refl .0; cycles-in = omega arith; timer-in = record { interval-in = omega arith; remaining-in = omega arith }; console-in = record { some = omega arith; few = omega arith; small = omega arith; start-in = omega arith; count-in = omega arith; written-in = omega arith }; none-counted = refl }
 
 row-is : (m : List ℤ) (pc sp : ℕ) (sr : ℤ) → lentOf (startMachine m pc sp sr) ≡ lent m (replicate 256 0) (replicate 4096 0) (imageRow (startOf (pos pc) (pos sp) sr))
 unfolding rowOf

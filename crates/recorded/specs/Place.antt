@@ -14,7 +14,7 @@ abbrev pub cellPut : Address → ℤ → ℤ → ℤ → List ℤ → Bool × Li
 cellPut A.NotAddress t x y l = (false, l)
 cellPut (A.At n) t x y l = cond (ltb n 10000) (true, set (set (set l (3 * n) t) (3 * n + 1) x) (3 * n + 2) y) (false, l)
 
--- place, 1 to 17, and number
+-- place, 1 to 20, and number
 abbrev pub numberPut : Address → ℤ → List ℤ → Bool × List ℤ
 numberPut A.NotAddress z l = (false, l)
 numberPut (A.At n) z l = cond (ltb n 1) (false, l) (cond (ltb ROW n) (false, l) (true, set l (n - 1) z))

@@ -6,5 +6,5 @@ pub mod place;
 pub mod reader;
 pub mod same;
 
-// "the row's 17 numbers"
+// "the row's 20 numbers"
 pub const ROW: usize = definition::places::ROW;

@@ -25,7 +25,7 @@ pub fn put_cell(cells: &mut [i64; 30000], address: i64, tag: i64, first: i64, se
     false
 }
 
-// A number of the row: place, 1 to 17.
+// A number of the row: place, 1 to 20.
 pub fn put_number(row: &mut [i64; ROW], place: i64, z: i64) -> bool
     ensures { λ r. ⌜ (r, now (row .exit)) ≡ numberPut (addressOf place) z (now (row .entry)) ⌝ }
 {

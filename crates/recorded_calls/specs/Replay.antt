@@ -129,7 +129,7 @@ callLine k l bytes w =
     cond (eqb k 13) (calling (up .0) (lent (up .1 .0) (m .queue) (m .output) (up .1 .1)) b u)
     (calling (reg .0) (lent (m .cells) (m .queue) (m .output) (reg .1)) b u))))
 
--- "opens a case: all cells empty, all bytes 0, the row's 17 numbers 0"
+-- "opens a case: all cells empty, all bytes 0, the row's 20 numbers 0"
 abbrev pub emptied : Lent → Lent
 emptied m =
     lent (replicate (length (m .cells)) (pos 0)) (replicate (length (m .queue)) 0) (replicate (length (m .output)) 0) (replicate (length (m .row)) (pos 0))

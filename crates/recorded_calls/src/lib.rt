@@ -251,7 +251,7 @@ fn call(
     set_register(s, l, row)
 }
 
-// "opens a case: all cells empty, all bytes 0, the row's 17 numbers 0"
+// "opens a case: all cells empty, all bytes 0, the row's 20 numbers 0"
 fn open(
     s: State,
     l: Line,

@@ -1,23 +1,24 @@
-// The row of 17 numbers: its parts read into structs, and written back. Places count from 0 here.
+// The row of 20 numbers: its parts read into structs, and written back. Places count from 0 here.
 use console::ConsoleState;
 use definition::Cell;
 use definition::Marks;
 use definition::Registers;
+use definition::Timer;
 use definition::places;
 ghost use mathlib.Core.Path.{_≡_};
 ghost use mathlib.Core.List.{[]};
 ghost use Prim.Native.Nat.{_+_, _<_, _^_};
 ghost use lib.IntN.{pos, natAbs};
 ghost use lib.ListN.{length, getD, set};
-ghost use Rattle.definition.specs.Constants.{ROW, ROW-PC, ROW-SP, ROW-SR, ROW-CYCLES, ROW-ENABLE, ROW-FLAG, ROW-PENDING, ROW-START, ROW-COUNT, ROW-WRITTEN};
+ghost use Rattle.definition.specs.Constants.{ROW, ROW-PC, ROW-SP, ROW-SR, ROW-CYCLES, ROW-ENABLE, ROW-FLAG, ROW-PENDING, ROW-START, ROW-COUNT, ROW-WRITTEN, ROW-INTERVAL, ROW-REMAINING, ROW-MARK};
 ghost use Rattle.definition.specs.Word.{eqZ};
 ghost use Rattle.definition.specs.Memory.{cell};
 ghost use Rattle.definition.specs.Calls.{at, put, mark, rowOf, deliveredRow};
-ghost use Rattle.definition.specs.Accepted.{Below};
+ghost use Rattle.definition.specs.Accepted.{Below, TimerIn};
 ghost use Rattle.definition.specs.Exec.{core};
 ghost use Rattle.definition.specs.Runtime.{machine};
 ghost use Rattle.console.specs.Meaning.{consoleOf};
-ghost use Rattle.row.specs.Meaning.{registersOf, marksOf, stateOf};
+ghost use Rattle.row.specs.Meaning.{registersOf, marksOf, stateOf, timerOf};
 
 pub fn number_at(row: &[i64], i: usize) -> u64
     requires { ⌜ i < length (now row) ⌝ }
@@ -81,6 +82,17 @@ pub fn console_state(row: &[i64]) -> ConsoleState
         start: number_at(row, places::START) as usize,
         count: number_at(row, places::COUNT) as usize,
         written: number_at(row, places::WRITTEN) as usize,
+    }
+}
+
+pub fn timer(row: &[i64]) -> Timer
+    requires { ⌜ length (now row) ≡ ROW ⌝ }
+    ensures { λ r. ⌜ r ≡ timerOf (now (row .entry)) ⌝ }
+{
+    Timer {
+        interval: number_at(row, places::INTERVAL),
+        remaining: number_at(row, places::REMAINING),
+        mark: mark_at(row, places::MARK),
     }
 }
 
@@ -148,10 +160,29 @@ pub fn put_console(row: &mut [i64], k: ConsoleState)
     row[places::WRITTEN] = written;
 }
 
+pub fn put_timer(row: &mut [i64], t: Timer)
+    requires { ⌜ (length (now row) ≡ ROW) × TimerIn t ⌝ }
+    ensures { λ r. ⌜ now (row .exit) ≡ put ROW-MARK (mark (t .mark)) (put ROW-REMAINING (pos (t .remaining)) (put ROW-INTERVAL (pos (t .interval)) (now (row .entry)))) ⌝ }
+{
+    let interval = t.interval as i64;
+    let remaining = t.remaining as i64;
+    let mark = mark_number(t.mark);
+    row[places::INTERVAL] = interval;
+    row[places::REMAINING] = remaining;
+    row[places::MARK] = mark;
+}
+
 // The whole row anew.
-pub fn write_row(row: &mut [i64], s: Registers, cycles: u64, k: ConsoleState, fence: u32)
-    requires { ⌜ (length (now row) ≡ ROW) × ((cycles < 2 ^ 63) × ((k .start < 2 ^ 63) × ((k .count < 2 ^ 63) × (k .written < 2 ^ 63)))) ⌝ }
-    ensures { λ r. ⌜ now (row .exit) ≡ rowOf (machine (core [] s) cycles (consoleOf k [] []) fence) ⌝ }
+pub fn write_row(
+    row: &mut [i64],
+    s: Registers,
+    cycles: u64,
+    k: ConsoleState,
+    fence: u32,
+    timer: Timer,
+)
+    requires { ⌜ (length (now row) ≡ ROW) × ((cycles < 2 ^ 63) × ((k .start < 2 ^ 63) × ((k .count < 2 ^ 63) × ((k .written < 2 ^ 63) × TimerIn timer)))) ⌝ }
+    ensures { λ r. ⌜ now (row .exit) ≡ rowOf (machine (core [] s) cycles (consoleOf k [] []) fence timer) ⌝ }
 {
     let a = s.a;
     let b = s.b;
@@ -162,6 +193,7 @@ pub fn write_row(row: &mut [i64], s: Registers, cycles: u64, k: ConsoleState, fe
     put_marks(row, marks);
     put_console(row, k);
     put(row, places::FENCE, fence as i64);
+    put_timer(row, timer);
 }
 
 // The row after n bytes were delivered.

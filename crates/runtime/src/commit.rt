@@ -87,6 +87,7 @@ pub fn commit(cells: &mut [i64], output: &mut [u8], fence: u32, a: Arrival, ente
     let p = f.p;
     let s = p.s;
     let k = f.k;
+    let timer = f.timer;
     write(cells, output, p, enters, a.number, f.sends, f.to, f.byte);
     if enters {
         return State {
@@ -94,6 +95,7 @@ pub fn commit(cells: &mut [i64], output: &mut [u8], fence: u32, a: Arrival, ente
             cycles: a.cycles + 1,
             k,
             fence,
+            timer,
         };
     }
     State {
@@ -101,5 +103,6 @@ pub fn commit(cells: &mut [i64], output: &mut [u8], fence: u32, a: Arrival, ente
         cycles: a.cycles,
         k,
         fence,
+        timer,
     }
 }

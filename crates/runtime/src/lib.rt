@@ -2,6 +2,7 @@
 // in crate computer.
 use console::ConsoleState;
 use definition::Registers;
+use definition::Timer;
 ghost use mathlib.Core.Path.{_≡_};
 ghost use Rattle.runtime.specs.Meaning.{guardOf};
 
@@ -22,6 +23,7 @@ pub struct State {
     pub cycles: u64,
     pub k: ConsoleState,
     pub fence: u32,
+    pub timer: Timer,
 }
 
 // The first address that a step from m may write: the fence binds "a step begun with S clear".

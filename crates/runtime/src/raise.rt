@@ -15,17 +15,18 @@ fn raising(m: State, code: u32) -> Arrival
 {
     let s = m.s;
     let k = m.k;
+    let timer = m.timer;
     Arrival {
         enters: true,
         stops: false,
         number: code,
         detail: 0,
         cycles: m.cycles,
-        f: super::effects::unchanged(s, k),
+        f: super::effects::unchanged(s, k, timer),
     }
 }
 
-// It sends no byte, so that an output record of no byte will do.
+// "a handler entry [...] by raise takes off none". It sends no byte, so that an output record of no byte will do.
 pub fn raise(cells: &mut [i64], m: State, code: u32) -> Stepped
     requires { do ⌜ (256 ≤ cellCount (now cells)) × (cellCount (now cells) ≤ 10000) ⌝; ⌜ m .cycles + 1 < 2 ^ 64 ⌝ }
     ensures { λ r. ⌜ ((q : List ℕ) → steppedOf (now (cells .exit)) q [] r ≡ limit (machineAt (now (cells .entry)) q [] m) (recover code (machineAt (now (cells .entry)) q [] m))) ⌝ }

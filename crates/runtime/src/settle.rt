@@ -3,11 +3,14 @@ use super::State;
 use super::Stepped;
 use super::arrive::Arrival;
 use super::decide::Decision;
+use definition::Timer;
 ghost use mathlib.Core.Path.{_≡_};
+ghost use mathlib.Core.Bool.{cond};
 ghost use mathlib.Core.List.{List};
 ghost use Prim.Native.Nat.{ℕ, _+_, _<_, _≤_, _^_};
 ghost use lib.ListN.{length};
 ghost use Rattle.definition.specs.Memory.{cellCount};
+ghost use Rattle.definition.specs.Timer.{tickEntry};
 ghost use Rattle.definition.specs.Runtime.{limit, settle};
 ghost use Rattle.runtime.specs.Meaning.{machineAt, Room, turnOf, steppedOf};
 
@@ -23,6 +26,16 @@ pub fn leaves(d: Decision, m: State) -> Stepped
     }
 }
 
+// In a step, entry takes its cycle off the timer.
+fn elapsed(enters: bool, code: u32, timer: Timer) -> Timer
+    ensures { λ r. ⌜ r ≡ cond enters (tickEntry code timer) timer ⌝ }
+{
+    if enters {
+        return timer::tick_entry(code, timer);
+    }
+    timer
+}
+
 // m is the machine before the step, which stop 7 leaves; the fence is that of every step.
 pub fn settle(cells: &mut [i64], output: &mut [u8], m: State, fence: u32, a: Arrival) -> Stepped
     requires { do ⌜ (256 ≤ cellCount (now cells)) × (cellCount (now cells) ≤ 10000) ⌝; ⌜ a .cycles + 1 < 2 ^ 64 ⌝; ⌜ Room (length (now output)) (a .f) ⌝ }
@@ -32,6 +45,8 @@ pub fn settle(cells: &mut [i64], output: &mut [u8], m: State, fence: u32, a: Arr
     if d.full {
         return leaves(d, m);
     }
-    let after = super::commit::commit(cells, output, fence, a, d.enters);
+    let mut after = super::commit::commit(cells, output, fence, a, d.enters);
+    let timer = after.timer;
+    after.timer = elapsed(d.enters, a.number, timer);
     leaves(d, after)
 }

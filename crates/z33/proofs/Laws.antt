@@ -28,7 +28,7 @@ use Rattle.computer.specs.Meaning.{endedOf}
 use Rattle.z33.specs.Meaning.{rowState}
 
 -- the row written anew looks at no list
-pub row-at : (l : List ℤ) (q o : List ℕ) (m : State) → rowOf (machine (core [] (m .s)) (m .cycles) (consoleOf (m .k) [] []) (m .fence)) ≡ rowOf (machineAt l q o m)
+pub row-at : (l : List ℤ) (q o : List ℕ) (m : State) → rowOf (machine (core [] (m .s)) (m .cycles) (consoleOf (m .k) [] []) (m .fence) (m .timer)) ≡ rowOf (machineAt l q o m)
 unfolding rowOf
 row-at l q o m = refl
 
@@ -50,7 +50,7 @@ module _ (l : List ℤ) (q o : List ℕ) (row : List ℤ) (h : passes (runCheck 
     pub left-accepted : AcceptedMachine (machineAt l' q o' (e .m))
     left-accepted = subst (λ (r : Run). AcceptedMachine (r .left)) (sym f) (run-ends b (machineAt l q o (rowState row)) run-accepted .left-in)
 
-    pub run-answer : (row' : List ℤ) → row' ≡ rowOf (machine (core [] (e .m .s)) (e .m .cycles) (consoleOf (e .m .k) [] []) (e .m .fence)) → called (record { refusal = 0; place = 0; stop = e .stop; detail = e .detail; steps = e .steps; empty = e .empty }) (lent l' q o' row') ≡ runCall b (lent l q o row)
+    pub run-answer : (row' : List ℤ) → row' ≡ rowOf (machine (core [] (e .m .s)) (e .m .cycles) (consoleOf (e .m .k) [] []) (e .m .fence) (e .m .timer)) → called (record { refusal = 0; place = 0; stop = e .stop; detail = e .detail; steps = e .steps; empty = e .empty }) (lent l' q o' row') ≡ runCall b (lent l q o row)
     unfolding ran
     run-answer row' g =
         ap (λ (x : List ℤ). called (record { refusal = 0; place = 0; stop = e .stop; detail = e .detail; steps = e .steps; empty = e .empty }) (lent l' q o' x)) (g ∙ row-at l' q o' (e .m))
@@ -81,7 +81,7 @@ module _ (l row : List ℤ) (code : ℕ) (l' : List ℤ) (x : Stepped) (h : step
   raise-is p =
       sym (ap (λ (t : Bool). cond t (raised l row (M.limit before (M.recover code before))) (called (record { refusal = raiseCheck l row code .refusal; place = raiseCheck l row code .place; stop = 0; detail = 0 }) (l, row))) p)
 
-  pub raise-done : passes (raiseCheck l row code) ≡ true → x .completed ≡ true → (row' : List ℤ) → row' ≡ rowOf (machine (core [] (x .m .s)) (x .m .cycles) (consoleOf (x .m .k) [] []) (x .m .fence)) → called (record { refusal = 0; place = 0; stop = 0; detail = 0 }) (l', row') ≡ raise l row code
+  pub raise-done : passes (raiseCheck l row code) ≡ true → x .completed ≡ true → (row' : List ℤ) → row' ≡ rowOf (machine (core [] (x .m .s)) (x .m .cycles) (consoleOf (x .m .k) [] []) (x .m .fence) (x .m .timer)) → called (record { refusal = 0; place = 0; stop = 0; detail = 0 }) (l', row') ≡ raise l row code
   unfolding raised rowOf
   raise-done p c row' f =
       (λ i. called (record { refusal = 0; place = 0; stop = 0; detail = 0 }) (l', f i)) ∙ ap (raised l row) (outcome-is true c) ∙ raise-is p
@@ -112,15 +112,15 @@ module _ (l row : List ℤ) (code : ℕ) (l' : List ℤ) (x : Stepped) (h : step
       go true t f = (f, subst (λ (y : M.Outcome). M.reached y .cycles < CYCLES-END) (sym f) (ltb-true _ _ t))
       go false t f = let z : _≡_ {A = ℕ} 0 1 = cc in absurd (omega arith)
 
-  recover-done : (m x : Machine) → M.completed x ≡ M.recover code m → x .console ≡ m .console
+  recover-done : (m x : Machine) → M.completed x ≡ M.recover code m → (x .console ≡ m .console) × (x .timer ≡ m .timer)
   unfolding M.recover M.entered M.reached
   recover-done m x e = go (M.hasHandler (m .core .cells)) e
     where
-      go : (b : Bool) → M.completed x ≡ cond b (M.completed (M.entered code m)) (M.stopped 2 code m) → x .console ≡ m .console
-      go true f = ap (λ (y : M.Outcome). M.reached y .console) f
+      go : (b : Bool) → M.completed x ≡ cond b (M.completed (M.entered code m)) (M.stopped 2 code m) → (x .console ≡ m .console) × (x .timer ≡ m .timer)
+      go true f = (ap (λ (y : M.Outcome). M.reached y .console) f, ap (λ (y : M.Outcome). M.reached y .timer) f)
       go false f = let z : _≡_ {A = ℕ} 0 1 = cc in absurd (omega arith)
 
-  pub raise-fits : x .completed ≡ true → (x .m .cycles < CYCLES-END) × (after .console ≡ before .console)
+  pub raise-fits : x .completed ≡ true → (x .m .cycles < CYCLES-END) × ((after .console ≡ before .console) × (after .timer ≡ before .timer))
   raise-fits c =
       let p = limit-done before after (M.recover code before) (outcome-is true c) in
       (p .1, recover-done before after (p .0))

@@ -29,5 +29,6 @@ fn state(row: &[i64]) -> State
         cycles: row::number_at(row, places::CYCLES),
         k: row::console_state(row),
         fence: row::number_at(row, places::FENCE) as u32,
+        timer: row::timer(row),
     }
 }

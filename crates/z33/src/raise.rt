@@ -16,7 +16,8 @@ pub extern "C" fn z33_raise(cells: &mut [i64], row: &mut [i64], code: u64) -> Ra
             let after = x.m;
             let s = after.s;
             let k = after.k;
-            row::write_row(row, s, after.cycles, k, after.fence);
+            let timer = after.timer;
+            row::write_row(row, s, after.cycles, k, after.fence, timer);
             return Raised {
                 refusal: 0,
                 place: 0,

@@ -35,7 +35,8 @@ pub extern "C" fn z33_run(
         let after = e.m;
         let s = after.s;
         let k = after.k;
-        row::write_row(row, s, after.cycles, k, after.fence);
+        let timer = after.timer;
+        row::write_row(row, s, after.cycles, k, after.fence, timer);
         return ran(e.stop, e.detail, e.steps, e.empty);
     }
     Ran {

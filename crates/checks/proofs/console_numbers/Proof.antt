@@ -1,13 +1,12 @@
 use native.Mathlib.Omega.{arith}
 use native.Mathlib.Numerals.{add-one}
 use mathlib.Core.Path.{ap, _∙_}
-use mathlib.Core.List.{[]}
 use Prim.Native.Nat.{ℕ}
 use lib.ListN.{drop}
 use borrow.Author.Needs.{needs}
 use Rattle.definition.specs.Constants.{ROW-ENABLE, ROW-FLAG, ROW-PENDING, ROW-START, ROW-COUNT, ROW-WRITTEN, ROW-FENCE}
 use Rattle.definition.specs.Calls.{rowTests, isBelow, at}
-use Rattle.checks.proofs.Verdict.{check-on, accept-by}
+use Rattle.checks.proofs.Verdict.{check-on}
 use Rattle.checks.proofs.console_numbers.Statement.{statement}
 use Rattle.checks.proofs.console_numbers.Tie as tie
 
@@ -17,8 +16,8 @@ add-below-at c = search needs
 below-at-requires : tie.Need-below-at-requires
 below-at-requires c κs = search needs
 
-accept-requires : tie.Need-accept-requires
-accept-requires c κs = search needs
+timer-numbers-requires : tie.Need-timer-numbers-requires
+timer-numbers-requires c κs = search needs
 
 check-requires : tie.Need-check-requires
 check-requires c κs = search needs
@@ -83,8 +82,8 @@ returns c =
     let at-check2 = at-below-at3 .before in
     let at-below-at2 = at-check2 .before in
     let at-check = at-below-at2 .before in
-    let at-accept = at-check .before in
-    let at-below-at = at-accept .before in
+    let at-timer-numbers = at-check .before in
+    let at-below-at = at-timer-numbers .before in
     let start = at-below-at .before in
     let a = start .args in
     let all = rowTests (a .q) (a .o) (a .n) (a .row .now) in
@@ -94,8 +93,8 @@ returns c =
     (check-on 4 ROW-START (drop 10 all) (at-check4 .check4 .ensures) (at-below-at4 .below-at4 .ensures)
     (check-on 4 ROW-COUNT (drop 11 all) (at-check3 .check3 .ensures) (at-below-at3 .below-at3 .ensures ∙ ap (λ (n : ℕ). isBelow n (at ROW-COUNT (a .row .now))) (add-one (a .q)))
     (check-on 4 ROW-WRITTEN (drop 12 all) (at-check2 .check2 .ensures) (at-below-at2 .below-at2 .ensures ∙ ap (λ (n : ℕ). isBelow n (at ROW-WRITTEN (a .row .now))) (add-one (a .o)))
-    (check-on 4 ROW-FENCE [] (at-check .check .ensures) (at-below-at .below-at .ensures ∙ ap (λ (n : ℕ). isBelow n (at ROW-FENCE (a .row .now))) (add-one (a .n)))
-    (accept-by (at-accept .accept .ensures))))))))
+    (check-on 4 ROW-FENCE (drop 13 all) (at-check .check .ensures) (at-below-at .below-at .ensures ∙ ap (λ (n : ℕ). isBelow n (at ROW-FENCE (a .row .now))) (add-one (a .n)))
+    (at-timer-numbers .timer-numbers .ensures (a .q) (a .o) (a .n))))))))
 
 pub console-numbers-spec : {M : Type 1} → statement M
 console-numbers-spec =
@@ -103,7 +102,7 @@ console-numbers-spec =
     (tie.spec
     add-below-at
     below-at-requires
-    accept-requires
+    timer-numbers-requires
     check-requires
     add-below-at-2
     below-at-requires-2

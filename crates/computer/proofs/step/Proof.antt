@@ -18,7 +18,7 @@ fetch-requires : tie.Need-fetch-requires
 fetch-requires c κs = search needs
 
 abbrev from-fetch : tie.After-fetch → tie.Start
-from-fetch c = c .before .before .before .before .before .before
+from-fetch c = c .before .before .before .before .before .before .before
 
 add-n : tie.Need-add-n
 add-n c =
@@ -48,7 +48,7 @@ ask-requires : tie.Need-ask-requires
 ask-requires c κs =
     let at-is-asker = c .before .before in
     let start = from-fetch (from-then1 (from-is-asker at-is-asker)) in
-    let p = start .pre .0 in let h = p .console-in .written-in in let k = p .console-in .small in ((p .core-in .high, (p .console-in .start-in, omega arith)), sym (at-is-asker .is-asker .ensures) ∙ c .before .if2 .taken)
+    let p = start .pre .0 in let h = p .console-in .written-in in let k = p .console-in .small in ((p .core-in .high, (p .console-in .start-in, omega arith)), (p .timer-in, sym (at-is-asker .is-asker .ensures) ∙ c .before .if2 .taken))
 
 output-full-requires : tie.Need-output-full-requires
 output-full-requires c κs = search needs
@@ -63,7 +63,7 @@ returns c =
     let at-fetch = from-then1 then1 in
     let start = from-fetch at-fetch in
     let a = start .args in let l = a .cells .now in let q = a .queue .now in let o = a .output .now in let m = a .m in let f = at-fetch .fetch in
-    rw (c .output-full .ensures) (full-step l q o m (f .result) (f .ensures) (at-ask .ask .result) (served-ok (guardOf m) l q (length o) (m .k) (f .result) (then1 .if1 .taken) _ (at-ask .ask .ensures (guardOf m))) (start .pre .0 .cycles-in) (c .before .if3 .taken))
+    rw (c .output-full .ensures) (full-step l q o m (f .result) (f .ensures) (at-ask .ask .result) (served-ok (guardOf m) l q (length o) (m .k) (m .timer) (f .result) (then1 .if1 .taken) _ (at-ask .ask .ensures (guardOf m))) (start .pre .0 .cycles-in) (c .before .if3 .taken))
 
 guard-requires : tie.Need-guard-requires
 guard-requires c κs = search needs
@@ -138,7 +138,7 @@ returns-3 c =
     let start = from-fetch at-fetch in
     let a = start .args in let l = a .cells .now in let q = a .queue .now in let o = a .output .now in let m = a .m in let f = at-fetch .fetch in
     let d = at-execute .execute in let w = at-write .write .ensures in
-    rw (c .completes2 .ensures) ((λ i. M.completed (machineAt (w .0 i) q (w .1 i) (record { s = d .result .p .s; cycles = m .cycles + f .result .i .cost; k = m .k; fence = m .fence }))) ∙ quiet-step l q o m (f .result) (f .ensures) (d .result) (served-made l q (length o) m (f .result) (then1 .if1 .taken) (from-execute at-execute .guard .ensures) (d .result) (d .ensures)) (then4 .if4 .taken) (sym (at-is-quiet2 .is-quiet2 .ensures) ∙ then7 .if7 .taken))
+    rw (c .completes2 .ensures) ((λ i. M.completed (machineAt (w .0 i) q (w .1 i) (record { s = d .result .p .s; cycles = m .cycles + f .result .i .cost; k = m .k; fence = m .fence; timer = m .timer }))) ∙ quiet-step l q o m (f .result) (f .ensures) (d .result) (served-made l q (length o) m (f .result) (then1 .if1 .taken) (from-execute at-execute .guard .ensures) (d .result) (d .ensures)) (then4 .if4 .taken) (sym (at-is-quiet2 .is-quiet2 .ensures) ∙ then7 .if7 .taken))
 
 performed-requires-2 : tie.Need-performed-requires-2
 performed-requires-2 c κs = search needs
@@ -157,15 +157,15 @@ abbrev fetched : tie.Joined1 → tie.After-fetch
 fetched c = c .before .before .before .before .before .before .before .before
 
 abbrev started : tie.After-fetch → tie.Start
-started c = c .before .before .before .before .before .before
+started c = c .before .before .before .before .before .before .before
 
-joined-serves : (c : tie.Joined1) → Serves (started (fetched c) .args .cells .now) (started (fetched c) .args .queue .now) (length (started (fetched c) .args .output .now)) (started (fetched c) .args .m .k) (fetched c .fetch .result .i .cost) (requested (guardOf (started (fetched c) .args .m)) (started (fetched c) .args .cells .now) (fetched c .fetch .result)) (record { full = false; e = c .if1 .e })
+joined-serves : (c : tie.Joined1) → Serves (started (fetched c) .args .cells .now) (started (fetched c) .args .queue .now) (length (started (fetched c) .args .output .now)) (started (fetched c) .args .m .k) (started (fetched c) .args .m .timer) (fetched c .fetch .result .i .cost) (requested (guardOf (started (fetched c) .args .m)) (started (fetched c) .args .cells .now) (fetched c .fetch .result)) (record { full = false; e = c .if1 .e })
 joined-serves c =
-    let a = started (fetched c) .args in let l = a .cells .now in let q = a .queue .now in let n = length (a .output .now) in let k = a .m .k in let g = guardOf (a .m) in let f = fetched c .fetch .result in
-    let at-e : Performed → Type 0 = λ e. Serves l q n k (f .i .cost) (requested g l f) (record { full = false; e = e }) in
-    ⊎-elim (λ w. subst at-e (sym (w .9)) (served-ok g l q n k f (w .0 .taken) _ (subst (λ (b : Bool). Serves l q n k (f .i .cost) (executedAt g l (f .s) (f .i)) (record { full = b; e = w .6 .result .e })) (w .7 .left) (w .6 .ensures g))))
+    let a = started (fetched c) .args in let l = a .cells .now in let q = a .queue .now in let n = length (a .output .now) in let k = a .m .k in let t = a .m .timer in let g = guardOf (a .m) in let f = fetched c .fetch .result in
+    let at-e : Performed → Type 0 = λ e. Serves l q n k t (f .i .cost) (requested g l f) (record { full = false; e = e }) in
+    ⊎-elim (λ w. subst at-e (sym (w .9)) (served-ok g l q n k t f (w .0 .taken) _ (subst (λ (b : Bool). Serves l q n k t (f .i .cost) (executedAt g l (f .s) (f .i)) (record { full = b; e = w .6 .result .e })) (w .7 .left) (w .6 .ensures g))))
     (λ v. ⊎-elim (λ w. subst at-e (sym (w .12 ∙ w .11 .ensures)) (served-made l q n (a .m) f (w .0 .taken) (w .6 .ensures) (w .7 .result) (w .7 .ensures)))
-    (λ w. subst at-e (sym (w .1 ∙ c .before .performed .ensures ∙ ap (λ (d : Made). performed d k) (c .before .before .with-none .ensures ∙ ap unwritten (c .before .before .before .refuse .ensures)))) (served-none g l q n k f (started (fetched c) .pre .0 .core-in .high) (w .0 .left))) v) (c .if1 .came)
+    (λ w. subst at-e (sym (w .1 ∙ c .before .performed .ensures ∙ ap (λ (d : Made). performed d k t) (c .before .before .with-none .ensures ∙ ap unwritten (c .before .before .before .refuse .ensures)))) (served-none g l q n k t f (started (fetched c) .pre .0 .core-in .high) (w .0 .left))) v) (c .if1 .came)
 
 settle-requires : tie.Need-settle-requires
 settle-requires c κs =

@@ -33,13 +33,17 @@ cast-put c = search needs
 put-requires : tie.Need-put-requires
 put-requires c κs = search needs
 
+put-timer-requires : tie.Need-put-timer-requires
+put-timer-requires c κs = search needs
+
 same-length : tie.Need-same-length
 same-length c = search needs
 
 returns : tie.Need-returns
 unfolding rowOf
 returns c =
-    let at-put-console = c .before .before .before .before in
+    let at-put = c .before .before .before .before in
+    let at-put-console = at-put .before .before .before in
     let at-put-marks = at-put-console .before .before .before in
     let at-put-numbers = at-put-marks .before .before .before in
     let at-put-cell2 = at-put-numbers .before .before .before in
@@ -47,8 +51,8 @@ returns c =
     let start = at-put-cell .before .before .before .before .before in
     let a = start .args in
     let h : a .fence < 2 ^ 63 = omega arith in
-    rw (c .before .put .ensures, toZ-pos w64 h, at-put-console .put-console .ensures, at-put-marks .put-marks .ensures, at-put-numbers .put-numbers .ensures, at-put-cell2 .put-cell2 .ensures, at-put-cell .put-cell .ensures)
-    (all-stored (rowOf (machine (core [] (a .s)) (a .cycles) (consoleOf (a .k) [] []) (a .fence))) (a .row .now) (start .pre .0))
+    rw (c .before .put-timer .ensures, at-put .put .ensures, toZ-pos w64 h, at-put-console .put-console .ensures, at-put-marks .put-marks .ensures, at-put-numbers .put-numbers .ensures, at-put-cell2 .put-cell2 .ensures, at-put-cell .put-cell .ensures)
+    (all-stored (rowOf (machine (core [] (a .s)) (a .cycles) (consoleOf (a .k) [] []) (a .fence) (a .timer))) (a .row .now) (start .pre .0))
 
 pub write-row-spec : {M : Type 1} → statement M
 write-row-spec =
@@ -61,5 +65,6 @@ write-row-spec =
     put-console-requires
     cast-put
     put-requires
+    put-timer-requires
     same-length
     returns)

@@ -1,12 +1,6 @@
-use mathlib.Core.Path.{refl}
 use borrow.Author.Needs.{needs}
 use Rattle.z33.proofs.state.Statement.{statement}
 use Rattle.z33.proofs.state.Tie as tie
-use Rattle.z33.proofs.state.Reads as reads
-use Rattle.z33.proofs.state.Lts as lts
-use Rattle.row.proofs.console_state.Reads as console-state-reads
-use Rattle.row.proofs.number_at.Reads as number-at-reads
-use Rattle.row.proofs.registers.Reads as registers-reads
 
 registers-requires : tie.Need-registers-requires
 registers-requires c κs = search needs
@@ -23,13 +17,16 @@ number-at-requires-2 c κs = search needs
 cast-t6 : tie.Need-cast-t6
 cast-t6 c = search needs
 
+timer-requires : tie.Need-timer-requires
+timer-requires c κs = search needs
+
 returns : tie.Need-returns
 returns c =
-    let at-console-state = c .before in
+    let at-console-state = c .before .before in
     let at-number-at = at-console-state .before in
     let at-registers = at-number-at .before in
-    rw (at-registers .registers .ensures, at-number-at .number-at .ensures, at-console-state .console-state .ensures, c .number-at2 .ensures)
+    rw (at-registers .registers .ensures, at-number-at .number-at .ensures, at-console-state .console-state .ensures, c .before .number-at2 .ensures, c .timer .ensures)
 
 pub state-spec : {M : Type 1} → statement M
 state-spec =
-    tie.close (tie.spec registers-requires number-at-requires console-state-requires number-at-requires-2 cast-t6 returns)
+    tie.close (tie.spec registers-requires number-at-requires console-state-requires number-at-requires-2 cast-t6 timer-requires returns)

@@ -4,7 +4,7 @@ use mathlib.Core.List.{List, []}
 use Prim.Native.Nat.{ℕ}
 use native.Mathlib.Omega.{arith}
 use Rattle.runtime.specs.Meaning.{machineAt, outcomeAt, raising}
-use Rattle.runtime.proofs.Decided.{no-byte, settles-full, settles, raises}
+use Rattle.runtime.proofs.Decided.{no-byte, raises-full, raises}
 use borrow.Author.Needs.{needs}
 use Rattle.runtime.proofs.raise.raise.Statement.{statement}
 use Rattle.runtime.proofs.raise.raise.Tie as tie
@@ -32,7 +32,7 @@ returns c =
     let at-raising = from-decide at-decide in
     let start = at-raising .before in
     λ q. let a = start .args in let k = rw (at-raising .raising .ensures) at (at-decide .decide .ensures) in
-    rw (c .leaves .ensures) (settles-full (a .cells .now) q [] (a .m) (a .m .fence) (raising (a .m) (a .code)) (at-decide .decide .result) k (c .before .if1 .taken)) ∙ raises (a .cells .now) q (a .m) (a .code) (start .pre .0 .1)
+    rw (c .leaves .ensures) (raises-full (a .cells .now) q (a .m) (a .code) (start .pre .0 .1) (at-decide .decide .result) k (c .before .if1 .taken))
 
 slice-aggregate-commit : tie.Need-slice-aggregate-commit
 slice-aggregate-commit c = search needs
@@ -58,7 +58,7 @@ returns-2 c =
     let at-raising = from-decide at-decide in
     let start = at-raising .before in
     λ q. let a = start .args in let d = at-decide .decide .result in let w = at-commit .commit in let k = rw (at-raising .raising .ensures) at (at-decide .decide .ensures) in
-    rw (c .leaves2 .ensures) (ap (λ (y : List ℕ). outcomeAt (d .completed) (d .stop) (d .detail) (machineAt (w .last .0) q y (w .result))) (sym (no-byte (w .last .1 .0) (w .kept .1 .0))) ∙ settles (a .cells .now) q [] (a .m) (a .m .fence) (raising (a .m) (a .code)) d k (else1 .if1 .left) _ (rw (at-raising .raising .ensures) at (w .ensures q)) ∙ raises (a .cells .now) q (a .m) (a .code) (start .pre .0 .1))
+    rw (c .leaves2 .ensures) (ap (λ (y : List ℕ). outcomeAt (d .completed) (d .stop) (d .detail) (machineAt (w .last .0) q y (w .result))) (sym (no-byte (w .last .1 .0) (w .kept .1 .0))) ∙ raises (a .cells .now) q (a .m) (a .code) (start .pre .0 .1) d k (else1 .if1 .left) _ (rw (at-raising .raising .ensures) at (w .ensures q)))
 
 pub raise-spec : {M : Type 1} → statement M
 raise-spec =

@@ -1,9 +1,6 @@
 use borrow.Author.Needs.{needs}
 use Rattle.runtime.proofs.raise.raising.Statement.{statement}
 use Rattle.runtime.proofs.raise.raising.Tie as tie
-use Rattle.runtime.proofs.raise.raising.Reads as reads
-use Rattle.runtime.proofs.raise.raising.Lts as lts
-use Rattle.runtime.proofs.effects.unchanged.Reads as unchanged-reads
 
 unchanged-requires : tie.Need-unchanged-requires
 unchanged-requires c κs = search needs

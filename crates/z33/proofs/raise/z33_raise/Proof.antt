@@ -1,9 +1,10 @@
-use mathlib.Core.Path.{ap, _∙_}
+use mathlib.Core.Path.{ap, sym, subst, _∙_}
 use mathlib.Core.List.{[]}
 use native.Mathlib.Omega.{arith}
 use Rattle.definition.specs.declared.Done.{Done}
 use Rattle.definition.specs.Io.{Console}
 use Rattle.definition.specs.Calls.{called, machineOf}
+use Rattle.definition.specs.Accepted.{TimerIn}
 use Rattle.checks.proofs.Verdict.{passed-by, refused-by}
 use Rattle.refusals.proofs.Passed.{raise-passed}
 use Rattle.z33.proofs.Laws.{raisedFrom, raise-done, raise-stopped, raise-fits, raise-refused}
@@ -61,7 +62,7 @@ from-raise c = c .before .before
 write-row-requires : tie.Need-write-row-requires
 unfolding machineOf
 write-row-requires c κs =
-    let then2 = c .before .before .before .before in
+    let then2 = c .before .before .before .before .before in
     let at-raise = from-then2 then2 in
     let at-state = from-raise at-raise in
     let then1 = from-state at-state in
@@ -70,9 +71,10 @@ write-row-requires c κs =
     let a = start .args in let t = passed-by (at-raise-check .raise-check .ensures) (then1 .if1 .taken) in let p = raise-passed (a .cells .now) (a .row .now) (a .code) t in
     let h = at-raise .raise .ensures [] ∙ ap (raisedFrom (a .cells .now) (a .code)) (at-state .state .ensures) in
     let f = raise-fits (a .cells .now) (a .row .now) (a .code) _ (at-raise .raise .result) h (then2 .if2 .taken) in
-    let s = ap (λ (x : Console). x .start) (f .1) in let n = ap (λ (x : Console). x .count) (f .1) in let w = ap (λ (x : Console). x .written) (f .1) in
+    let s = ap (λ (x : Console). x .start) (f .1 .0) in let n = ap (λ (x : Console). x .count) (f .1 .0) in let w = ap (λ (x : Console). x .written) (f .1 .0) in
     let r = p .row-fits in let rs = r .start .1 in let rn = r .count .1 in let rw' = r .written .1 in
-    (r .long, (f .0, (omega arith, (omega arith, omega arith))))
+    let time = subst TimerIn (sym (f .1 .1)) (record { interval-in = r .interval .1; remaining-in = let h = r .remaining .1 in omega arith }) in
+    (r .long, (f .0, (omega arith, (omega arith, (omega arith, time)))))
 
 same-length : tie.Need-same-length
 same-length c = search needs
@@ -82,7 +84,7 @@ same-length-2 c = search needs
 
 returns : tie.Need-returns
 returns c =
-    let then2 = c .before .before .before .before .before .before in
+    let then2 = c .before .before .before .before .before .before .before in
     let at-raise = from-then2 then2 in
     let at-state = from-raise at-raise in
     let then1 = from-state at-state in
@@ -92,11 +94,11 @@ returns c =
     let h = at-raise .raise .ensures [] ∙ ap (raisedFrom (a .cells .now) (a .code)) (at-state .state .ensures) in
     raise-done (a .cells .now) (a .row .now) (a .code) _ (at-raise .raise .result) h t (then2 .if2 .taken) _ (c .before .write-row .ensures)
 
-cast-t24 : tie.Need-cast-t24
-cast-t24 c = search needs
-
 cast-t25 : tie.Need-cast-t25
 cast-t25 c = search needs
+
+cast-t26 : tie.Need-cast-t26
+cast-t26 c = search needs
 
 same-length-3 : tie.Need-same-length-3
 same-length-3 c = search needs
@@ -141,8 +143,8 @@ z33-raise-spec =
     same-length
     same-length-2
     returns
-    cast-t24
     cast-t25
+    cast-t26
     same-length-3
     same-length-4
     returns-2

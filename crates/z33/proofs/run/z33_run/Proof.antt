@@ -54,7 +54,7 @@ from-run c = c .before .before .before .before
 
 write-row-requires : tie.Need-write-row-requires
 write-row-requires c κs =
-    let at-run = c .before .before .before .before .before .before .before in
+    let at-run = c .before .before .before .before .before .before .before .before in
     let at-state = from-run at-run in
     let then1 = from-state at-state in
     let at-run-check = from-then1 then1 in
@@ -63,7 +63,7 @@ write-row-requires c κs =
     let p = run-passed (lent (a .cells .now) (a .queue .now) (a .output .now) (a .row .now)) h .row-fits in
     let x = left-accepted (a .cells .now) (a .queue .now) (a .output .now) (a .row .now) h _ _ _ (at-run .run .result) f in
     let n = x .console-in in let q = n .few in let z = n .small in let s = n .start-in in let t = n .count-in in let w = n .written-in in
-    (p .long, (x .cycles-in, (omega arith, (omega arith, omega arith))))
+    (p .long, (x .cycles-in, (omega arith, (omega arith, (omega arith, x .timer-in)))))
 
 ran-requires : tie.Need-ran-requires
 ran-requires c κs = search needs
@@ -83,7 +83,7 @@ same-length-4 c = search needs
 returns : tie.Need-returns
 returns c =
     let at-write-row = c .before .before in
-    let at-run = at-write-row .before .before .before .before .before .before .before .before in
+    let at-run = at-write-row .before .before .before .before .before .before .before .before .before in
     let at-state = from-run at-run in
     let then1 = from-state at-state in
     let at-run-check = from-then1 then1 in
