@@ -230,7 +230,7 @@ static void fence_after(const int64_t *instruction, const int64_t *before, const
     if (MUTANT == FENCE_FAS_SETS && form == FAS_DIRECT && reg == 0 && !supervisor && entered && to < row[FENCE]) {
         memcpy(row + Z33_ROW_A, cells + 3 * to, 3 * sizeof *row);
     }
-    if (MUTANT == FENCE_SP_UNDONE && form == PUSH_IMMEDIATE && !supervisor && entered) {
+    if (MUTANT == FENCE_SP_UNDONE && form == PUSH_IMMEDIATE && !supervisor && entered && row[SP] < row[FENCE]) {
         row[SP] = before[SP];
     }
     if (MUTANT == FENCE_ENTRY && !supervisor && entered && row[FENCE] > 100) {

@@ -71,12 +71,14 @@ fn completes(s: Registers, cycles: u64, k: ConsoleState, fence: u32, timer: Time
     }
 }
 
-// Computer::step: fetch, execute or ask, conclude; then what is decided is written. `saved` is m wherever stop 7 could come. An instruction
-// that leaves nothing else to do is the usual case, and is written at once; without a cell to write nothing is (docs/SPEED.md).
+// Computer::step: fetch, execute or ask, conclude; then what is decided is written. The guard is taken first, by S of the step's beginning.
+// `saved` is m wherever stop 7 could come. An instruction that leaves nothing else to do is the usual case, and is written at once; without
+// a cell to write nothing is (docs/SPEED.md).
 pub fn step(cells: &mut [i64], queue: &[u8], output: &mut [u8], saved: State, m: State) -> Stepped
     requires { do ⌜ AcceptedMachine (machineAt (now cells) (now queue) (now output) m) ⌝; ⌜ (NEAR ≤ m .cycles → saved ≡ m) ⌝ }
     ensures { λ r. ⌜ steppedOf (now (cells .exit)) (now (queue .entry)) (now (output .exit)) r ≡ step (machineAt (now (cells .entry)) (now (queue .entry)) (now (output .entry)) m) ⌝ }
 {
+    let guard = runtime::guard(m);
     let s = m.s;
     let k = m.k;
     let timer = m.timer;
@@ -101,7 +103,7 @@ pub fn step(cells: &mut [i64], queue: &[u8], output: &mut [u8], saved: State, m:
             }
             e = served.e;
         } else {
-            let d = instructions::execute(cells, runtime::guard(m), t, op, x, y);
+            let d = instructions::execute(cells, guard, t, op, x, y);
             let p = d.p;
             let u = p.s;
             if d.ok {

@@ -54,6 +54,11 @@ impl<'m> Harness<'m> {
         }
     }
 
+    /// The same machine with counts of its own.
+    pub fn apart(&mut self) -> Harness<'_> {
+        Harness::new(self.other)
+    }
+
     /// Makes the case's calls; the answers, or what differed first.
     pub fn check(&mut self, case: &Case) -> Result<Vec<Answer>, String> {
         self.start(case);

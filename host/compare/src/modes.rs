@@ -42,6 +42,8 @@ pub const CHECK: Size =
 pub fn all(harness: &mut Harness, size: &Size, seed: u64) -> Result<Vec<String>, String> {
     let tags = tags::check()?;
     let directed = directed::check(harness)?;
+    let fenced = directed::check_fenced(&mut harness.apart())?;
+    let timed = directed::check_timed(&mut harness.apart())?;
     singles(harness, size.singles, seed)?;
     let after_singles = harness.steps;
     words::each(|case| checked(harness, case))?;
@@ -49,11 +51,10 @@ pub fn all(harness: &mut Harness, size: &Size, seed: u64) -> Result<Vec<String>,
     programs(harness, size.programs, seed)?;
     let user = pairs::check(&mut Rng::new(seed + 2), size.pairs, 300)?;
     let (after_programs, calls, outside) = (harness.steps, harness.calls, harness.read_outside);
+    let at_ports = harness.timer.steps();
     reached(harness.coverage.missing(&BASE_KINDS, 1))?;
-    let fenced = directed::check_fenced(harness)?;
     with_a_fence(harness, size.fenced, seed + 3)?;
     reached([harness.coverage.missing(&[Kind::Fenced], 1), harness.fence.missing()].concat())?;
-    let timed = directed::check_timed(harness)?;
     with_the_timer(harness, size.timed, seed + 4)?;
     let missing = harness.coverage.missing(&[Kind::Timed], 1);
     reached([missing, harness.timer.missing(), harness.taken.missing()].concat())?;
@@ -64,7 +65,8 @@ pub fn all(harness: &mut Harness, size: &Size, seed: u64) -> Result<Vec<String>,
         ),
         format!(
             "{} steps and {} calls compared: single {after_singles}, words {}, programs {}; of these steps {} read an operand \
-             outside the cells, and are held to the original's stop with its own entry of code 5 after it",
+             outside the cells, and are held to the original's stop with its own entry of code 5 after it; {at_ports} use the \
+             timer's ports, or come after it was turned on there",
             after_programs,
             calls,
             after_words - after_singles,

@@ -14,11 +14,17 @@ use borrow.Author.Needs.{needs}
 use Rattle.computer.proofs.step.Statement.{statement}
 use Rattle.computer.proofs.step.Tie as tie
 
+guard-requires : tie.Need-guard-requires
+guard-requires c κs = search needs
+
 fetch-requires : tie.Need-fetch-requires
 fetch-requires c κs = search needs
 
+abbrev to-guard : tie.After-fetch → tie.After-guard
+to-guard c = c .before .before .before .before .before
+
 abbrev from-fetch : tie.After-fetch → tie.Start
-from-fetch c = c .before .before .before .before .before .before .before
+from-fetch c = to-guard c .before .before .before
 
 add-n : tie.Need-add-n
 add-n c =
@@ -65,15 +71,12 @@ returns c =
     let a = start .args in let l = a .cells .now in let q = a .queue .now in let o = a .output .now in let m = a .m in let f = at-fetch .fetch in
     rw (c .output-full .ensures) (full-step l q o m (f .result) (f .ensures) (at-ask .ask .result) (served-ok (guardOf m) l q (length o) (m .k) (m .timer) (f .result) (then1 .if1 .taken) _ (at-ask .ask .ensures (guardOf m))) (start .pre .0 .cycles-in) (c .before .if3 .taken))
 
-guard-requires : tie.Need-guard-requires
-guard-requires c κs = search needs
-
 execute-requires : tie.Need-execute-requires
 execute-requires c κs =
-    let at-is-asker = c .before .before .before in
+    let at-is-asker = c .before .before in
     let at-fetch = from-then1 (from-is-asker at-is-asker) in
     let start = from-fetch at-fetch in
-    (start .pre .0 .core-in .high, (sym (at-is-asker .is-asker .ensures) ∙ c .before .before .if2 .left, at-fetch .fetch .ensures .known))
+    (start .pre .0 .core-in .high, (sym (at-is-asker .is-asker .ensures) ∙ c .before .if2 .left, at-fetch .fetch .ensures .known))
 
 is-quiet-requires : tie.Need-is-quiet-requires
 is-quiet-requires c κs = search needs
@@ -87,11 +90,8 @@ same-length-2 c = search needs
 abbrev from-then4 : tie.Then4 → tie.After-execute
 from-then4 c = c .before .before .before
 
-abbrev from-execute : tie.After-execute → tie.After-guard
-from-execute c = c .before
-
-abbrev from-guard : tie.After-guard → tie.After-is-asker
-from-guard c = c .before .before .before
+abbrev from-execute : tie.After-execute → tie.After-is-asker
+from-execute c = c .before .before .before
 
 returns-2 : tie.Need-returns-2
 returns-2 c =
@@ -99,12 +99,12 @@ returns-2 c =
     let then5 = at-is-quiet .before in
     let then4 = then5 .before .before in
     let at-execute = from-then4 then4 in
-    let then1 = from-is-asker (from-guard (from-execute at-execute)) in
+    let then1 = from-is-asker (from-execute at-execute) in
     let at-fetch = from-then1 then1 in
     let start = from-fetch at-fetch in
     let a = start .args in let l = a .cells .now in let q = a .queue .now in let o = a .output .now in let m = a .m in let f = at-fetch .fetch in
     let d = at-execute .execute in let e = then5 .if5 .taken in let few = start .pre .0 .core-in .high in
-    rw (c .completes .ensures) (quiet-unwritten l q o m (f .result) (f .ensures) (d .result) (omega arith) (served-made l q (length o) m (f .result) (then1 .if1 .taken) (from-execute at-execute .guard .ensures) (d .result) (d .ensures)) (then4 .if4 .taken) (sym (at-is-quiet .is-quiet .ensures) ∙ c .before .if6 .taken))
+    rw (c .completes .ensures) (quiet-unwritten l q o m (f .result) (f .ensures) (d .result) (omega arith) (served-made l q (length o) m (f .result) (then1 .if1 .taken) (to-guard at-fetch .guard .ensures) (d .result) (d .ensures)) (then4 .if4 .taken) (sym (at-is-quiet .is-quiet .ensures) ∙ c .before .if6 .taken))
 
 is-quiet-requires-2 : tie.Need-is-quiet-requires-2
 is-quiet-requires-2 c κs = search needs
@@ -114,7 +114,7 @@ from-is-quiet2 c = c .before .before .before
 
 write-requires : tie.Need-write-requires
 write-requires c κs =
-    let start = from-fetch (from-then1 (from-is-asker (from-guard (from-execute (from-then4 (from-is-quiet2 (c .before .before .before))))))) in
+    let start = from-fetch (from-then1 (from-is-asker (from-execute (from-then4 (from-is-quiet2 (c .before .before .before)))))) in
     (start .pre .0 .core-in .low, λ t. absurd (true≢false (sym t)))
 
 completes-requires-2 : tie.Need-completes-requires-2
@@ -133,12 +133,12 @@ returns-3 c =
     let at-is-quiet2 = then7 .before in
     let then4 = from-is-quiet2 at-is-quiet2 in
     let at-execute = from-then4 then4 in
-    let then1 = from-is-asker (from-guard (from-execute at-execute)) in
+    let then1 = from-is-asker (from-execute at-execute) in
     let at-fetch = from-then1 then1 in
     let start = from-fetch at-fetch in
     let a = start .args in let l = a .cells .now in let q = a .queue .now in let o = a .output .now in let m = a .m in let f = at-fetch .fetch in
     let d = at-execute .execute in let w = at-write .write .ensures in
-    rw (c .completes2 .ensures) ((λ i. M.completed (machineAt (w .0 i) q (w .1 i) (record { s = d .result .p .s; cycles = m .cycles + f .result .i .cost; k = m .k; fence = m .fence; timer = m .timer }))) ∙ quiet-step l q o m (f .result) (f .ensures) (d .result) (served-made l q (length o) m (f .result) (then1 .if1 .taken) (from-execute at-execute .guard .ensures) (d .result) (d .ensures)) (then4 .if4 .taken) (sym (at-is-quiet2 .is-quiet2 .ensures) ∙ then7 .if7 .taken))
+    rw (c .completes2 .ensures) ((λ i. M.completed (machineAt (w .0 i) q (w .1 i) (record { s = d .result .p .s; cycles = m .cycles + f .result .i .cost; k = m .k; fence = m .fence; timer = m .timer }))) ∙ quiet-step l q o m (f .result) (f .ensures) (d .result) (served-made l q (length o) m (f .result) (then1 .if1 .taken) (to-guard at-fetch .guard .ensures) (d .result) (d .ensures)) (then4 .if4 .taken) (sym (at-is-quiet2 .is-quiet2 .ensures) ∙ then7 .if7 .taken))
 
 performed-requires-2 : tie.Need-performed-requires-2
 performed-requires-2 c κs = search needs
@@ -157,14 +157,14 @@ abbrev fetched : tie.Joined1 → tie.After-fetch
 fetched c = c .before .before .before .before .before .before .before .before
 
 abbrev started : tie.After-fetch → tie.Start
-started c = c .before .before .before .before .before .before .before
+started c = from-fetch c
 
 joined-serves : (c : tie.Joined1) → Serves (started (fetched c) .args .cells .now) (started (fetched c) .args .queue .now) (length (started (fetched c) .args .output .now)) (started (fetched c) .args .m .k) (started (fetched c) .args .m .timer) (fetched c .fetch .result .i .cost) (requested (guardOf (started (fetched c) .args .m)) (started (fetched c) .args .cells .now) (fetched c .fetch .result)) (record { full = false; e = c .if1 .e })
 joined-serves c =
     let a = started (fetched c) .args in let l = a .cells .now in let q = a .queue .now in let n = length (a .output .now) in let k = a .m .k in let t = a .m .timer in let g = guardOf (a .m) in let f = fetched c .fetch .result in
     let at-e : Performed → Type 0 = λ e. Serves l q n k t (f .i .cost) (requested g l f) (record { full = false; e = e }) in
     ⊎-elim (λ w. subst at-e (sym (w .9)) (served-ok g l q n k t f (w .0 .taken) _ (subst (λ (b : Bool). Serves l q n k t (f .i .cost) (executedAt g l (f .s) (f .i)) (record { full = b; e = w .6 .result .e })) (w .7 .left) (w .6 .ensures g))))
-    (λ v. ⊎-elim (λ w. subst at-e (sym (w .12 ∙ w .11 .ensures)) (served-made l q n (a .m) f (w .0 .taken) (w .6 .ensures) (w .7 .result) (w .7 .ensures)))
+    (λ v. ⊎-elim (λ w. subst at-e (sym (w .11 ∙ w .10 .ensures)) (served-made l q n (a .m) f (w .0 .taken) (to-guard (fetched c) .guard .ensures) (w .6 .result) (w .6 .ensures)))
     (λ w. subst at-e (sym (w .1 ∙ c .before .performed .ensures ∙ ap (λ (d : Made). performed d k t) (c .before .before .with-none .ensures ∙ ap unwritten (c .before .before .before .refuse .ensures)))) (served-none g l q n k t f (started (fetched c) .pre .0 .core-in .high) (w .0 .left))) v) (c .if1 .came)
 
 settle-requires : tie.Need-settle-requires
@@ -196,6 +196,7 @@ pub step-spec : {M : Type 1} → statement M
 step-spec =
     tie.close
     (tie.spec
+    guard-requires
     fetch-requires
     add-n
     refuse-requires
@@ -206,7 +207,6 @@ step-spec =
     output-full-requires
     same-length
     returns
-    guard-requires
     execute-requires
     is-quiet-requires
     completes-requires

@@ -147,6 +147,11 @@ impl Coverage {
         self.counts.iter().filter(|(_, count)| **count == 0).map(|(way, _)| name(way)).collect()
     }
 
+    /// How many steps were counted.
+    pub fn steps(&self) -> u64 {
+        self.steps
+    }
+
     pub fn told(&self) -> String {
         let reached = self.counts.values().filter(|count| **count > 0).count();
         let times = |which: fn(&Way) -> bool| -> u64 {
