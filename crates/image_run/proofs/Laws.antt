@@ -1,35 +1,48 @@
 -- The two cases of what is printed. Assumes nothing.
-use mathlib.Core.Path.{_≡_, sym, ap, _∙_}
-use mathlib.Core.List.{List, foldl}
-use Prim.Native.Nat.{ℕ, _<_}
+use mathlib.Core.Path.{_≡_, ap, _∙_}
+use mathlib.Core.List.{List, []}
+use Prim.Native.Nat.{ℕ}
 use lib.IntN.{ℤ}
-use borrow.Author.Tests.{lt-ltb}
+use borrow.Author.Tests.{ne-eqb}
 use Rattle.definition.specs.declared.Ran.{Ran}
-use Rattle.lines.specs.Reader.{State, state, step, opened, emptyCells, readText, brokenLine}
+use Rattle.definition.specs.Calls.{called}
+use Rattle.lines.specs.declared.Start.{Start}
+use Rattle.lines.specs.Reader.{emptyCells}
 use Rattle.report.specs.Text.{runText, refusalText}
-use Rattle.image_run.specs.Image.{imageRow, imageRun, imageText, reportText, printed, cellsLeft}
+use Rattle.source.specs.declared.Loaded.{Loaded}
+use Rattle.source.specs.Source.{bounded, loading}
+use Rattle.source.specs.Message.{messageText}
+use Rattle.image_run.specs.Image.{imageRow, imageRun, imageText, reportOf, messageOf, printed, said}
 
-pub refused-report : (s : State) (n : ℕ) → n ≡ brokenLine (s .reader) → 0 < n → reportText s ≡ refusalText n
-unfolding reportText
-refused-report s n e h = rw (← e, lt-ltb 0 n h)
-
-pub image-report : (s : State) → brokenLine (s .reader) ≡ 0 → reportText s ≡ imageText (s .cells) (s .reader .start)
-unfolding reportText
-image-report s e = rw e
-
-pub run-report : (s : State) (row left : List ℤ) (ran : Ran) → brokenLine (s .reader) ≡ 0 → row ≡ imageRow (s .reader .start) → ran ≡ imageRun (s .cells) row .answer → left ≡ imageRun (s .cells) row .left .row → runText ran left ≡ reportText s
+pub run-text : (cells : List ℤ) (s : Start) (row left : List ℤ) (ran : Ran) → row ≡ imageRow s → ran ≡ imageRun cells row .answer → left ≡ imageRun cells row .left .row → runText ran left ≡ imageText cells s
 unfolding imageText
-run-report s row left ran z e a l = rw (a, l, e) (sym (image-report s z))
+run-text cells s row left ran e a l = rw (a, l, e)
 
-pub refused-cells : (s : State) (n : ℕ) → n ≡ brokenLine (s .reader) → 0 < n → s .cells ≡ cellsLeft s
-unfolding cellsLeft
-refused-cells s n e h = rw (← e, lt-ltb 0 n h)
+module _ (t : List ℕ) (l : Loaded) (left cells : List ℤ) (e : called l left ≡ loading t cells) (z : cells ≡ emptyCells) where
+  made : called l left ≡ loading t emptyCells
+  made = e ∙ ap (loading t) z
 
-pub run-cells : (s : State) (row left : List ℤ) → brokenLine (s .reader) ≡ 0 → row ≡ imageRow (s .reader .start) → left ≡ imageRun (s .cells) row .left .cells → left ≡ cellsLeft s
-unfolding cellsLeft
-run-cells s row left z e l = rw (l, e, z)
+  pub run-put : l .refusal ≡ 0 → imageText left (l .start) ≡ reportOf (loading t emptyCells)
+  unfolding reportOf
+  run-put h = rw (← made, h)
 
--- what is printed of a text that was read from empty cells on
-pub read-report : {s : State} {l : List ℤ} (text : List ℕ) → s ≡ foldl step (state opened l) text → l ≡ emptyCells → reportText s ≡ printed text
-unfolding printed readText
-read-report text e z = ap reportText (e ∙ ap (λ (l : List ℤ). foldl step (state opened l) text) z)
+  pub nothing-said : l .refusal ≡ 0 → [] ≡ messageOf t (loading t emptyCells)
+  unfolding messageOf
+  nothing-said h = rw (← made, h)
+
+  pub refusal-put : (l .refusal ≡ 0 → ⊥) → refusalText (l .refusal) (l .place) ≡ reportOf (loading t emptyCells)
+  unfolding reportOf
+  refusal-put h = rw (← made, ne-eqb (l .refusal) 0 h)
+
+  pub message-put : (l .refusal ≡ 0 → ⊥) → messageText t (l .refusal) (l .place) ≡ messageOf t (loading t emptyCells)
+  unfolding messageOf
+  message-put h = rw (← made, ne-eqb (l .refusal) 0 h)
+
+module _ (file t : List ℕ) (e : t ≡ bounded file) where
+  pub file-printed : reportOf (loading t emptyCells) ≡ printed file
+  unfolding printed
+  file-printed = rw e
+
+  pub file-said : messageOf t (loading t emptyCells) ≡ said file
+  unfolding said
+  file-said = rw e

@@ -1,38 +1,18 @@
--- What is printed, in the terms of the grammar. Assumes nothing.
-use mathlib.Core.Path.{_≡_, sym, ap, _∙_, subst}
-use mathlib.Core.List.{List, [], _∷_, _++_}
+-- What stands for a number in the printed text is a numeral of the lines' grammar, and that number's. Assumes nothing.
+use mathlib.Core.Path.{_≡_, subst}
+use mathlib.Core.List.{[], _∷_, _++_}
 use Prim.Native.Nat.{ℕ, zero, suc, _+_, _*_, _/_, _%_, _^_, _<_}
 use native.Mathlib.Omega.{arith}
 use native.Mathlib.Nat.{pow-suc}
 use lib.IntN.{ℤ, pos, negsuc}
-use lib.ListN.{length}
 use mir.Syntax.{w64}
 use mir.Val.{SFits}
 use Rattle.word.proofs.Laws.{ltb-elim}
-use Rattle.lines.specs.Reader.{readText}
-use Rattle.lines.specs.Grammar.{Digits, Numeral, Image, Breaks}
+use Rattle.lines.specs.Grammar.{Digits, Numeral}
 use Rattle.decimal.specs.Decimal as D
 use Rattle.lines.specs.Grammar as G
-use Rattle.lines.proofs.Complete.{startOf}
-use Rattle.lines.proofs.Exact.{taken, broken-at}
 use Rattle.printing.specs.Decimal.{decimalIn, decimal, numeral}
-use Rattle.report.specs.Text.{refusalText}
-use Rattle.image_run.specs.Image.{imageText, printed}
-use Rattle.image_run.proofs.Laws.{refused-report, image-report}
 
--- An image gives the lines of its run.
-pub image-printed : {n : ℕ} {s : List ℕ} {pc sp sr : ℤ} {m : List ℤ} → length s < 18446744073709551615 → Image n s pc sp sr m → printed s ≡ imageText m (startOf pc sp sr)
-unfolding printed
-image-printed {s = s} {pc} {sp} {sr} {m} h i =
-    let t = taken h i in
-    image-report (readText s) (t .0) ∙ ap (λ (l : List ℤ). imageText l (readText s .reader .start)) (t .1 .1) ∙ ap (imageText m) (t .1 .0)
-
--- Any other text gives only `refused,12,` and the line that breaks the form.
-pub refusal-printed : {k : ℕ} {s : List ℕ} → length s < 18446744073709551615 → Breaks k s → printed s ≡ refusalText (k + 1)
-unfolding printed
-refusal-printed {k} {s} h b = refused-report (readText s) (k + 1) (sym (broken-at h b)) (omega arith)
-
--- What stands for a number is a numeral of the grammar, and that number's.
 digits-printed : (k n : ℕ) → n < 10 ^ suc k → Digits (decimalIn (suc k) n) n
 unfolding decimalIn
 digits-printed zero n h = ltb-elim n 10 (λ e l. rw e (D.one l)) (λ e l. absurd (omega arith))

@@ -1,15 +1,18 @@
--- How the runner runs an image (document 01, "The runner").
+-- How the runner runs a program (document 01, "The runner"; document 02, Card 7).
 use mathlib.Core.Bool.{cond}
-use mathlib.Core.List.{List}
+use mathlib.Core.List.{List, []}
 use Prim.Native.Nat.{ℕ}
 use lib.IntN.{ℤ, pos}
-use lib.Dec.{ltb}
+use lib.Dec.{eqb}
 use lib.ListN.{replicate}
 use Rattle.definition.specs.declared.Ran.{Ran}
 use Rattle.definition.specs.Constants.{ROW, ROW-PC, ROW-SP, ROW-SR}
 use Rattle.definition.specs.Calls.{put, Called, Lent, lent, runCall}
 use Rattle.lines.specs.declared.Start.{Start}
-use Rattle.lines.specs.Reader.{State, brokenLine, readText}
+use Rattle.lines.specs.Reader.{emptyCells}
+use Rattle.source.specs.declared.Loaded.{Loaded}
+use Rattle.source.specs.Source.{bounded, loading}
+use Rattle.source.specs.Message.{messageText}
 use Rattle.report.specs.Text.{runText, refusalText}
 
 -- pc, sp and sr in the row.
@@ -30,17 +33,21 @@ imageText cells s =
     let m = imageRun cells (imageRow s) in
     runText (m .answer) (m .left .row)
 
--- "Any refusal prints only `refused,12,line`."
-unfoldable pub reportText : State → List ℕ
-reportText s =
-    let n = brokenLine (s .reader) in
-    cond (ltb 0 n) (refusalText n) (imageText (s .cells) (s .reader .start))
+-- What is printed of a file within the limit: the lines of its run, or "`refused`, number and line".
+unfoldable pub reportOf : Called Loaded (List ℤ) → List ℕ
+reportOf m = cond (eqb (m .answer .refusal) 0) (imageText (m .left) (m .answer .start)) (refusalText (m .answer .refusal) (m .answer .place))
 
--- What the runner prints of a whole text.
+-- What a person is told of it on standard error.
+unfoldable pub messageOf : List ℕ → Called Loaded (List ℤ) → List ℕ
+messageOf t m = cond (eqb (m .answer .refusal) 0) [] (messageText t (m .answer .refusal) (m .answer .place))
+
+-- A file, "loaded from cell 0" of 2,048 empty cells.
+abbrev pub loadedFile : List ℕ → Called Loaded (List ℤ)
+loadedFile file = loading (bounded file) emptyCells
+
+-- What the runner prints of a whole file, on standard output and on standard error.
 unfoldable pub printed : List ℕ → List ℕ
-printed text = reportText (readText text)
+printed file = reportOf (loadedFile file)
 
--- The cells afterwards. A text that is no image is not run.
-unfoldable pub cellsLeft : State → List ℤ
-cellsLeft s =
-    cond (ltb 0 (brokenLine (s .reader))) (s .cells) (imageRun (s .cells) (imageRow (s .reader .start)) .left .cells)
+unfoldable pub said : List ℕ → List ℕ
+said file = messageOf (bounded file) (loadedFile file)

@@ -11,7 +11,7 @@ use Rattle.printing.proofs.Laws.{drop-end, decimal-short, numeral-short}
 use Rattle.definition.specs.declared.Ran.{Ran}
 use Rattle.definition.specs.Constants.{ROW-A, ROW-B, ROW-PC, ROW-SP, ROW-SR, ROW-CYCLES, ROW-WRITTEN}
 use Rattle.definition.specs.Calls.{at}
-use Rattle.report.specs.Text.{field, fields, line, numbersFrom, answerText, registersText, cellsText, refusalText, stopName, stepsName, emptyName}
+use Rattle.report.specs.Text.{field, fields, line, numbersFrom, answerText, registersText, cellsText, refusalText, stopName, stepsName, emptyName, refusedName}
 
 -- ---- a text grows
 
@@ -75,6 +75,17 @@ pub last-fits : (n k m : ℕ) → k ≤ 480 → m ≡ 512 → k + length (line e
 unfolding line
 last-fits n k m h e = let a = fields-short (pos n ∷ []) in simp length-append (omega arith)
 
-pub refusal-fits : (n : ℕ) → length (refusalText n) ≤ 512
-unfolding refusalText
-refusal-fits n = let a = decimal-short 20 n in simp length-append (omega arith)
+-- ---- a refusal
+
+pub four : (a b c d : List ℕ) {w x y z : List ℕ} → w ≡ a → x ≡ w ++ b → y ≡ x ++ c → z ≡ y ++ d → z ≡ a ++ (b ++ (c ++ d))
+four a b c d e f g h = rw (h, g, f, e) (simp append-assoc)
+
+regroup-two : (a b c d : List ℕ) → a ++ ((b ++ (c ++ [])) ++ d) ≡ a ++ (b ++ (c ++ d))
+regroup-two a b c d = simp (append-assoc, append-nil)
+
+pub refusal-pieces : (n p : ℕ) → refusalText n p ≡ refusedName ++ (field (pos n) ++ (field (pos p) ++ (10 ∷ [])))
+unfolding refusalText line fields
+refusal-pieces n p = regroup-two refusedName (field (pos n)) (field (pos p)) (10 ∷ [])
+
+pub field-short : (n : ℕ) → length (field (pos n)) ≤ 22
+field-short n = let a = numeral-short (pos n) in omega arith

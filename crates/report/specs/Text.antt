@@ -19,7 +19,7 @@ fields (v ∷ vs) = field v ++ fields vs
 unfoldable pub line : List ℕ → List ℤ → List ℕ
 line name vs = name ++ (fields vs ++ (10 ∷ []))
 
--- The lines' names: `stop`, `steps`, `cycles`, `regs`, `a`, `b`, `out`, `empty`, and what a refusal begins with, `refused,12,`.
+-- The lines' names: `stop`, `steps`, `cycles`, `regs`, `a`, `b`, `out`, `empty`, and a refusal's, `refused`.
 abbrev pub stopName : List ℕ
 stopName = 115 ∷ 116 ∷ 111 ∷ 112 ∷ []
 
@@ -45,7 +45,7 @@ abbrev pub emptyName : List ℕ
 emptyName = 101 ∷ 109 ∷ 112 ∷ 116 ∷ 121 ∷ []
 
 abbrev pub refusedName : List ℕ
-refusedName = 114 ∷ 101 ∷ 102 ∷ 117 ∷ 115 ∷ 101 ∷ 100 ∷ 44 ∷ 49 ∷ 50 ∷ 44 ∷ []
+refusedName = 114 ∷ 101 ∷ 102 ∷ 117 ∷ 115 ∷ 101 ∷ 100 ∷ []
 
 -- "stop and detail; steps": the lines `stop` and `steps`.
 unfoldable pub answerText : Ran → List ℕ
@@ -74,7 +74,6 @@ emptyText ran = line emptyName (pos (ran .empty) ∷ [])
 unfoldable pub runText : Ran → List ℤ → List ℕ
 runText ran row = answerText ran ++ (registersText row ++ (cellsText row ++ emptyText ran))
 
--- "Any refusal prints only `refused,12,line`."
-unfoldable pub refusalText : ℕ → List ℕ
-refusalText n =
-    refusedName ++ (decimal n ++ (10 ∷ []))
+-- "A refusal prints `refused`, number and line."
+unfoldable pub refusalText : ℕ → ℕ → List ℕ
+refusalText number place = line refusedName (pos number ∷ pos place ∷ [])

@@ -110,13 +110,14 @@ pub fn put_run(out: &mut [u8], ran: Ran, row: &[i64]) -> usize
     put_count_line(out, k, b"empty", ran.empty)
 }
 
-// "Any refusal prints only `refused,12,line`."
-pub fn put_refusal(out: &mut [u8], line: u64) -> usize
-    requires { ⌜ length (now out) ≡ 512 ⌝ }
-    ensures { λ r. ⌜ take r (now (out .exit)) ≡ refusalText line ⌝ }
+// "A refusal prints `refused`, number and line."
+pub fn put_refusal(out: &mut [u8], number: u64, place: u64) -> usize
+    requires { ⌜ 64 ≤ length (now out) ⌝ }
+    ensures { λ r. ⌜ take r (now (out .exit)) ≡ refusalText number place ⌝ }
     ensures { λ r. ⌜ Counts r (now (out .exit)) ⌝ }
 {
-    let i = put(out, 0, b"refused,12,");
-    let i = put_decimal(out, i, line);
+    let i = put(out, 0, b"refused");
+    let i = put_count(out, i, number);
+    let i = put_count(out, i, place);
     put_byte(out, i, 10)
 }

@@ -1,116 +1,131 @@
-// The runner: reads an image's lines from standard input, or from the file that its argument names, runs it, and prints the report.
-// No contract can say which bytes a read gives or a write takes: what is read is some text, and what is written is made by `put_input_report`.
+// The runner: reads a start line and a program written as text from standard input, or from the file that its argument names, runs it, and prints the report; of
+// a file that is refused a person's message goes to standard error. No contract can say which bytes a read gives or a write takes: what is read is some
+// text, and what is written is made by `put_input`.
 use libc::STDERR_FILENO;
 use libc::STDIN_FILENO;
 use libc::STDOUT_FILENO;
-use lines::Reader;
 ghost use mathlib.Core.Path.{_≡_};
-ghost use lib.ListN.{length};
+ghost use Prim.Native.Nat.{_≤_};
+ghost use lib.ListN.{length, take, replicate};
 ghost use Rattle.io.specs.Counts.{Counts};
-ghost use Rattle.lines.specs.Reader.{state, opened};
-ghost use Rattle.runner.specs.Input.{PartRead, TextRead, Reported};
+ghost use Rattle.runner.specs.Input.{PartRead, Printed};
 
-// The reader after the whole input, or after the first broken line; `failed` where the input could not be read.
-struct Input {
-    failed: bool,
-    reader: Reader,
-}
-
-// One read more.
-struct Turn {
+// One read more: what was read, up to `at`.
+struct Part {
     ended: bool,
     failed: bool,
-    reader: Reader,
+    at: usize,
 }
 
-// How much is to be printed; `failed` as in Input.
-struct Put {
+// How much was read; `failed` where the input could not be read.
+struct Text {
     failed: bool,
     length: usize,
 }
 
-// Takes what one read gives.
-fn read_part(fd: i32, cells: &mut [i64], r: Reader) -> Turn
-    requires { ⌜ length (now cells) ≡ 6144 ⌝ }
-    ensures { λ t. ⌜ PartRead (state r (now (cells .entry))) (state (t .reader) (now (cells .exit))) (t .ended) (t .failed) ⌝ }
+// How much is to be printed on standard output and on standard error; `failed` as in Text.
+struct Put {
+    failed: bool,
+    out: usize,
+    err: usize,
+}
+
+// One byte more than is allowed, so that a file that is longer is noticed.
+fn no_text() -> [u8; 32769]
+    ensures { λ r. ⌜ r ≡ replicate 32769 0 ⌝ }
+    ensures { λ r. ⌜ 32769 ≡ length r ⌝ }
 {
-    let mut buf = io::large_buffer();
-    let got = libc::read(fd, &mut buf);
-    let n = io::count(got, &buf);
+    [0; 32769]
+}
+
+fn no_message() -> [u8; 33792]
+    ensures { λ r. ⌜ r ≡ replicate 33792 0 ⌝ }
+    ensures { λ r. ⌜ 33792 ≡ length r ⌝ }
+{
+    [0; 33792]
+}
+
+fn read_part(fd: i32, text: &mut [u8], at: usize) -> Part
+    requires { ⌜ at ≤ length (now text) ⌝ }
+    ensures { λ r. ⌜ PartRead (take at (now (text .entry))) (take (r .at) (now (text .exit))) (r .ended) (r .failed) ⌝ }
+    ensures { λ r. ⌜ (at ≤ r .at) × (r .at ≤ length (now (text .exit))) ⌝ }
+{
+    let got = libc::read(fd, &mut text[at..]);
+    let n = io::count(got, &text[at..]);
     if n == 0 {
-        return Turn {
+        return Part {
             ended: true,
             failed: got < 0,
-            reader: r,
+            at,
         };
     }
-    let q = lines::part::take_part(cells, r, &buf[..n]);
-    Turn {
-        ended: q.broken,
+    Part {
+        ended: false,
         failed: false,
-        reader: q,
+        at: at + n,
     }
 }
 
-// No input uses up so many turns.
-fn read_all(fd: i32, cells: &mut [i64]) -> Input
-    requires { ⌜ length (now cells) ≡ 6144 ⌝ }
-    ensures { λ t. ⌜ TextRead (state opened (now (cells .entry))) (state (t .reader) (now (cells .exit))) ⌝ }
+fn read_all(fd: i32, text: &mut [u8]) -> Text
+    ensures { λ r. ⌜ Counts (r .length) (now (text .exit)) ⌝ }
 {
-    let mut r = lines::open();
-    let mut turns = u64::MAX;
-    while turns > 0 {
-        let t = read_part(fd, cells, r);
-        r = t.reader;
-        if t.ended {
-            return Input {
-                failed: t.failed,
-                reader: r,
+    let mut at: usize = 0;
+    while at < text.len() {
+        let p = read_part(fd, text, at);
+        at = p.at;
+        if p.ended {
+            return Text {
+                failed: p.failed,
+                length: at,
             };
         }
-        turns -= 1;
     }
-    Input {
+    Text {
         failed: false,
-        reader: r,
+        length: at,
     }
 }
 
-// Puts the report of what fd gives, whole, at the front of out; nothing where it could not be read.
-fn put_input_report(fd: i32, out: &mut [u8]) -> Put
-    requires { ⌜ length (now out) ≡ 512 ⌝ }
-    ensures { λ p. ⌜ Reported (p .failed) (p .length) (now (out .exit)) ⌝ }
-    ensures { λ p. ⌜ Counts (p .length) (now (out .exit)) ⌝ }
+// Puts what is printed of what fd gives at the front of out and of err; nothing where it could not be read.
+fn put_input(fd: i32, out: &mut [u8], err: &mut [u8]) -> Put
+    requires { ⌜ (length (now out) ≡ 512) × (length (now err) ≡ 33792) ⌝ }
+    ensures { λ p. ⌜ Printed (p .failed) (p .out) (now (out .exit)) (p .err) (now (err .exit)) ⌝ }
+    ensures { λ p. ⌜ Counts (p .out) (now (out .exit)) × Counts (p .err) (now (err .exit)) ⌝ }
 {
-    let mut cells = lines::empty_cells();
-    let t = read_all(fd, &mut cells);
+    let mut text = no_text();
+    let t = read_all(fd, &mut text);
     if t.failed {
         return Put {
             failed: true,
-            length: 0,
+            out: 0,
+            err: 0,
         };
     }
-    let r = t.reader;
-    let n = image_run::put_report(&mut cells, r, out);
+    let n = t.length;
+    let p = image_run::put_report(&text[..n], out, err);
     Put {
         failed: false,
-        length: n,
+        out: p.out,
+        err: p.err,
     }
 }
 
-// Prints the report of what fd gives, or says on standard error why it could not be read.
-fn print_report(fd: i32, name: &[u8]) {
+// Prints what is made of what fd gives, or says on standard error why it could not be read.
+fn print_input(fd: i32, name: &[u8]) {
     let mut out = [0u8; 512];
-    let p = put_input_report(fd, &mut out);
+    let mut err = no_message();
+    let p = put_input(fd, &mut out, &mut err);
     if p.failed {
         os::fail(name);
         return;
     }
-    let n = p.length;
+    let n = p.out;
     io::write_all(STDOUT_FILENO, &out[..n]);
+    let m = p.err;
+    io::write_all(STDERR_FILENO, &err[..m]);
 }
 
-fn print_file_report() {
+fn print_file() {
     let mut path = io::buffer();
     let n = os::arg(1, &mut path);
     if os::errno() != 0 {
@@ -122,18 +137,18 @@ fn print_file_report() {
         os::fail(&path[..n]);
         return;
     }
-    print_report(fd, &path[..n]);
+    print_input(fd, &path[..n]);
     libc::close(fd);
 }
 
 fn main() {
     let n = os::arg_count();
     if n <= 1 {
-        print_report(STDIN_FILENO, b"standard input");
+        print_input(STDIN_FILENO, b"standard input");
         return;
     }
     if n == 2 {
-        print_file_report();
+        print_file();
         return;
     }
     io::write_all(STDERR_FILENO, b"usage: runner [FILE]\n");

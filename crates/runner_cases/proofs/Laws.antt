@@ -1,25 +1,16 @@
 -- When a case passes, how the tally grows and where it ends. Assumes nothing.
 use mathlib.Core.Path.{_≡_, refl, sym, ap, _∙_}
 use mathlib.Core.Bool.{Bool, true, false, cond, false≢true, _&&_}
-use mathlib.Core.List.{List, [], _∷_, _++_, foldl, foldl-append, append-assoc}
+use mathlib.Core.List.{List, [], _∷_, _++_, append-assoc}
 use Prim.Native.Nat.{ℕ, zero, suc, _+_, _-_, _<_, _≤_}
 use native.Mathlib.Omega.{arith}
 use lib.Dec.{eqb}
-use lib.ListN.{length, take, drop, length-drop, take-append-drop}
-use lib.Seq.{take-all}
+use lib.ListN.{length, take, drop}
 use borrow.Author.Tests.{eqb-true, eq-eqb, ne-eqb, le-leb, lt-leb}
-use Rattle.lines.specs.Reader.{State, step}
 use Rattle.printing.specs.Decimal.{decimal}
 use Rattle.image_run.specs.Image.{printed}
 use Rattle.runner_cases.specs.declared.Tally.{Tally}
 use Rattle.runner_cases.specs.Cases.{lengthAt, inputAt, dueAt, endOf, sameText, passing, tally, counted, tallied, tallyOf, passedName, ofName, endsName, passedText, verdictText}
-
--- ---- a text in two parts
-
-pub two-parts : (s : State) {t u : State} (text : List ℕ) (cut : ℕ) → t ≡ foldl step s (take cut text) → u ≡ foldl step t (take (length text - cut) (drop cut text)) → u ≡ foldl step s text
-two-parts s text cut p q =
-    let e : take (length text - cut) (drop cut text) ≡ drop cut text = take-all (length text - cut) (drop cut text) (simp length-drop (omega arith)) in
-    q ∙ rw (e, p) (sym (foldl-append step s (take cut text) (drop cut text)) ∙ ap (foldl step s) (take-append-drop cut text))
 
 -- ---- two texts
 

@@ -1,13 +1,10 @@
 // Puts every case of the files that its arguments name through the runner's own functions and compares whole texts. A case is a line with two
 // lengths of seven digits, the input's and the output's, then the input and the output.
 use libc::STDOUT_FILENO;
-use lines::Reader;
 ghost use mathlib.Core.Path.{_≡_};
-ghost use mathlib.Core.List.{foldl};
 ghost use Prim.Native.Nat.{_+_, _≤_};
 ghost use lib.ListN.{length, take, replicate};
 ghost use Rattle.io.specs.Counts.{Counts};
-ghost use Rattle.lines.specs.Reader.{state, step, opened};
 ghost use Rattle.runner_cases.specs.Cases.{digitOf, lengthAt, passing, tallyOf, passedText, verdictText};
 
 // How far the cases got.
@@ -22,6 +19,13 @@ fn no_text() -> [u8; 512]
     ensures { λ r. ⌜ 512 ≡ length r ⌝ }
 {
     [0; 512]
+}
+
+fn no_message() -> [u8; 33792]
+    ensures { λ r. ⌜ r ≡ replicate 33792 0 ⌝ }
+    ensures { λ r. ⌜ 33792 ≡ length r ⌝ }
+{
+    [0; 33792]
 }
 
 // A file of cases is shorter than this.
@@ -56,28 +60,15 @@ fn length_at(s: &[u8], at: usize) -> usize
     a + b + digit(s[at + 6])
 }
 
-// The input goes in by two parts, cut at `cut`.
-fn read_cut(cells: &mut [i64], input: &[u8], cut: usize) -> Reader
-    requires { ⌜ length (now cells) ≡ 6144 ⌝ }
-    ensures { λ q. ⌜ state q (now (cells .exit)) ≡ foldl step (state opened (now (cells .entry))) (now (input .entry)) ⌝ }
-{
-    let r = lines::open();
-    if cut < input.len() {
-        let q = lines::part::take_part(cells, r, &input[..cut]);
-        return lines::part::take_part(cells, q, &input[cut..]);
-    }
-    lines::part::take_part(cells, r, input)
-}
-
 // 1 where the runner's text is the one that is due, else 0.
-fn passes(input: &[u8], due: &[u8], cut: usize) -> u64
+fn passes(input: &[u8], due: &[u8]) -> u64
     ensures { λ r. ⌜ r ≡ passing (now (input .entry)) (now (due .entry)) ⌝ }
     ensures { λ r. ⌜ r ≤ 1 ⌝ }
 {
-    let mut cells = lines::empty_cells();
-    let r = read_cut(&mut cells, input, cut);
     let mut out = no_text();
-    let n = image_run::put_report(&mut cells, r, &mut out);
+    let mut err = no_message();
+    let p = image_run::put_report(input, &mut out, &mut err);
+    let n = p.out;
     if check::same(&out[..n], due) {
         return 1;
     }
@@ -113,7 +104,7 @@ fn replay(s: &[u8]) -> Tally
         let i = at + 16;
         let j = i + a;
         let k = j + b;
-        let one = passes(&s[i..j], &s[j..k], (seen % 100) as usize);
+        let one = passes(&s[i..j], &s[j..k]);
         seen += 1;
         passed += one;
         tell(one, seen);

@@ -20,5 +20,7 @@ pub const LABEL: u64 = 14;
 pub const VALUE: u64 = 15;
 pub const EMPTY_CELL: u64 = 16;
 pub const TEXT_ROOM: u64 = 17;
-/// The runner's. Place: the line.
+/// The runner's, and of old files the listings tool's. Place: the line.
 pub const LINE: u64 = 12;
+/// The runner's. Place: the line.
+pub const NUMERIC_LINE: u64 = 18;

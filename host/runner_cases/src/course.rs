@@ -7,7 +7,6 @@ use layout::op::{CALL, DIV, FAS, JMP, LD, OUT, POP, PUSH, RESET, RTI, SHL, SHR, 
 use layout::reg::{A, PC, SR};
 use layout::sr::SUPERVISOR;
 
-use crate::Case;
 use crate::image::{Image, at_the_edge, judged};
 
 fn reset() -> Cell {
@@ -23,9 +22,11 @@ fn started(start: [i64; 3], cells: &[(i64, Cell)]) -> Image {
     Image { start, cells: cells.to_vec() }
 }
 
-pub fn cases() -> Vec<Case> {
-    let mut all: Vec<Case> = inside().iter().map(judged).collect();
-    all.extend(edges().iter().map(at_the_edge));
+/// Each program with what answers for it.
+pub fn programs() -> Vec<(Image, fn(&Image) -> String)> {
+    let mut all: Vec<(Image, fn(&Image) -> String)> = Vec::new();
+    all.extend(inside().into_iter().map(|image| (image, judged as fn(&Image) -> String)));
+    all.extend(edges().into_iter().map(|image| (image, at_the_edge as fn(&Image) -> String)));
     all
 }
 

@@ -1,174 +1,166 @@
-//! Texts that break the form, each with the lowest line that does, and texts at its edge that do not.
+//! Files that are refused, each with the number and line that are due, and files at the edges that are not. What is due of all of them also comes from
+//! `written::file`, which knows document 02 alone.
 
-use layout::Cell;
+use layout::refusal::{LABEL, LINE, NUMERIC_LINE, TEXT, VALUE};
+use layout::runner::{BYTES, CELLS};
+use written::file::{Program, read};
 
 use crate::Case;
 use crate::image::{Image, at_the_edge, refused};
+use crate::old::FIRST;
 
 const START: &str = "start,0,0,0\n";
 
-/// Broken first lines.
-const FIRST: &[&str] = &[
-    "",
-    "\n",
-    "start",
-    "start,0,0,0",
-    "start\n",
-    "start,\n",
-    "start,0,0\n",
-    "start,0,0,\n",
-    "start,0,0,0,\n",
-    "start,0,0,0,0\n",
-    "start,0,0,0\r\n",
-    " start,0,0,0\n",
-    "start ,0,0,0\n",
-    "start,0,0,0 \n",
-    "start,+0,0,0\n",
-    "start,,0,0\n",
-    "start,-,0,0\n",
-    "start,--0,0,0\n",
-    "start,0-,0,0\n",
-    "start,-1,0,0\n",
-    "start,0,-1,0\n",
-    "start,4294967296,0,0\n",
-    "start,0,4294967296,0\n",
-    "start,0,0,9223372036854775808\n",
-    "start,0,0,-9223372036854775809\n",
-    "start,0,0,99999999999999999999\n",
-    "start,18446744073709551616,0,0\n",
-    "Start,0,0,0\n",
-    "stbrt,0,0,0\n",
-    "starts,0,0,0\n",
-    "0,0,0,0\n",
-    ",0,0,0\n",
-    "start,0,0,0x\n",
-    "start,0x0,0,0\n",
-    "start,0,0,1e3\n",
-    "start;0;0;0\n",
-    "\u{feff}start,0,0,0\n",
-    "start,0,0,\u{662}\n",
-    "start,0,0,0\0\n",
-    "\0",
+/// After a start line in order: the text, the number and the line.
+const TEXTS: &[(&str, u64, u64)] = &[
+    ("\n", TEXT, 2),
+    ("reset", TEXT, 2),
+    ("reset\nreset", TEXT, 3),
+    ("reset\r\n", TEXT, 2),
+    ("\treset\n", TEXT, 2),
+    ("reset ; done\n", TEXT, 2),
+    ("start,0,0,0\n", TEXT, 2),
+    ("Reset\n", TEXT, 2),
+    ("add 5 %a\n", TEXT, 2),
+    ("add 5,%a,%b\n", TEXT, 2),
+    ("reset\0\n", TEXT, 2),
+    ("nop\n\0", TEXT, 3),
+    // numbers parted by commas: four, of any size
+    ("0,0,0,0\n", NUMERIC_LINE, 2),
+    ("0,202,5,0\n1,20702,0,0\n", NUMERIC_LINE, 2),
+    ("-1,-0,00,-000\n", NUMERIC_LINE, 2),
+    ("99999999999999999999999999,1,-99999999999999999999999999,0\n", NUMERIC_LINE, 2),
+    ("0,0,0,0", TEXT, 2),
+    ("0,0,0\n", TEXT, 2),
+    ("0,0,0,\n", TEXT, 2),
+    (",0,0,0\n", TEXT, 2),
+    ("0,0,0,0,\n", TEXT, 2),
+    ("0,0,0,0,0\n", TEXT, 2),
+    ("0,0,,0\n", TEXT, 2),
+    ("0,0,-,0\n", TEXT, 2),
+    ("0,0,--1,0\n", TEXT, 2),
+    ("0,0,1-,0\n", TEXT, 2),
+    ("+0,0,0,0\n", TEXT, 2),
+    ("0,0,0,0 \n", TEXT, 2),
+    (" 0,0,0,0\n", TEXT, 2),
+    ("0, 0,0,0\n", TEXT, 2),
+    ("0,0,0,0\r\n", TEXT, 2),
+    ("0,0,0,0\0\n", TEXT, 2),
+    ("0,0,0,x\n", TEXT, 2),
+    ("x:0,0,0,0\n", TEXT, 2),
+    // "of 13 and 18 the lowest line counts"
+    ("nop\n0,0,0,0\nwhat\n", NUMERIC_LINE, 3),
+    ("what\n0,0,0,0\n", TEXT, 2),
+    ("0,0,0,0\nwhat\n", NUMERIC_LINE, 2),
+    ("nop\nnop\n0,0,0,0\n0,0,0,0\n", NUMERIC_LINE, 4),
+    ("nop\n\0\n0,0,0,0\n", TEXT, 3),
+    // then 14, then 15
+    ("jmp x\n", LABEL, 2),
+    ("jmp x\nwhat\n", TEXT, 3),
+    ("jmp x\nnop\n0,0,0,0\n", NUMERIC_LINE, 4),
+    ("x: nop\nx: nop\n", LABEL, 3),
+    (".word 9223372036854775808\n", VALUE, 2),
+    ("nop\nld [-1],%a\n", VALUE, 3),
+    (".word 9223372036854775808\nwhat\n", TEXT, 3),
+    (".word 9223372036854775808\n0,0,0,0\n", NUMERIC_LINE, 3),
+    (".word 9223372036854775808\nnop\njmp x\n", LABEL, 4),
 ];
 
-/// Broken second lines, after a first that is in order.
-const SECOND: &[&str] = &[
-    "\n",
-    "0",
-    "0,0,0,0",
-    "0,0,0\n",
-    "0,0,0,\n",
-    "0,0,0,0,\n",
-    "0,0,0,0,0\n",
-    ",0,0,0,0\n",
-    "0,0,0,0\r\n",
-    "\r\n",
-    " 0,0,0,0\n",
-    "0, 0,0,0\n",
-    "0,0,0,0 \n",
-    "\t0,0,0,0\n",
-    "+0,0,0,0\n",
-    "0,+0,0,0\n",
-    "-,0,0,0\n",
-    "0,-,0,0\n",
-    "0,1,--5,0\n",
-    "0,1,5-,0\n",
-    "0,1,-,0\n",
-    "0,1,,0\n",
+/// Files in order.
+const IN_ORDER: &[&str] = &[
     "start,0,0,0\n",
-    "2048,0,0,0\n",
-    "-1,0,0,0\n",
-    "4294967296,0,0,0\n",
-    "18446744073709551616,0,0,0\n",
-    "0,1,9223372036854775808,0\n",
-    "0,1,-9223372036854775809,0\n",
-    "0,1,92233720368547758070,0\n",
-    "0,1,100000000000000000000000000000,0\n",
-    "0,0,1,0\n",
-    "0,0,0,1\n",
-    "0,1,0,1\n",
-    "0,2,0,0\n",
-    "0,-1,0,0\n",
-    "0,29702,0,0\n",
-    "0,202,5,1\n",
-    "0,207,5,0\n",
-    "0,20702,1,0\n",
-    "0,9223372036854775807,0,0\n",
-    "0,0,0,0a\n",
-    "0.0,0,0,0\n",
-    "0,0,0,\u{80}\n",
-    "0,0,0,0\0\n",
-    "\0",
-    "#\n",
-    "0,1,'5',0\n",
-    "0;0;0;0\n",
-    "0/0,0,0\n",
-    "0:,0,0,0\n",
-];
-
-/// In order: leading zeros, -0, the ends of 64 bits and of the addresses.
-const IN_ORDER: &[(&str, &[(i64, Cell)], [i64; 3])] = &[
-    ("start,0,0,0\n", &[], [0, 0, 0]),
-    ("start,-0,-000,-0\n", &[], [0, 0, 0]),
-    ("start,0000000000000000000000000000000000000007,1,2\n", &[], [7, 1, 2]),
-    ("start,4294967295,4294967295,9223372036854775807\n", &[], [4_294_967_295, 4_294_967_295, i64::MAX]),
-    ("start,0,0,-9223372036854775808\n", &[], [0, 0, i64::MIN]),
-    ("start,0,0,-00000000000000000000009223372036854775808\n", &[], [0, 0, i64::MIN]),
-    ("start,0,0,0\n2047,1,9223372036854775807,0\n", &[(2_047, [1, i64::MAX, 0])], [0, 0, 0]),
-    ("start,0,0,0\n-0,1,-9223372036854775808,-0\n", &[(0, [1, i64::MIN, 0])], [0, 0, 0]),
-    (
-        "start,0,0,0\n0000,00202,-00005,0000\n0001,20702,-0,-00\n",
-        &[(0, [202, -5, 0]), (1, [20_702, 0, 0])],
-        [0, 0, 0],
-    ),
-    ("start,0,0,0\n0,1,7,0\n0,20702,0,0\n", &[(0, [20_702, 0, 0])], [0, 0, 0]),
+    "start,-0,-000,-0\nreset\n",
+    "start,0000000000000000000000000000000000000007,1,2\n",
+    "start,4294967295,4294967295,9223372036854775807\n",
+    "start,0,0,-9223372036854775808\nreset\n",
+    "start,1,0,0\nstart: .word -9223372036854775808\n  word:reset\n",
+    "start,1,0,0\nx: .word x\nagain: ld [ x + 0 * ( 7 - 3 ) ], %a\nadd 1,%a\nst %a, [0]\njmp end\nnop\nend:reset\n",
 ];
 
 pub fn cases() -> Vec<Case> {
-    let mut all: Vec<Case> = FIRST.iter().map(|text| broken(text.as_bytes(), 1)).collect();
-    all.extend(SECOND.iter().map(|text| broken((START.to_string() + text).as_bytes(), 2)));
+    let mut all: Vec<Case> = FIRST.iter().map(|text| case(text.as_bytes(), Some((LINE, 1)))).collect();
+    all.extend(
+        TEXTS.iter().map(|(text, refusal, line)| {
+            case((START.to_string() + text).as_bytes(), Some((*refusal, *line)))
+        }),
+    );
+    all.extend(IN_ORDER.iter().map(|text| case(text.as_bytes(), None)));
     all.extend(bytes());
-    all.extend(later());
-    all.extend(IN_ORDER.iter().map(|(text, cells, start)| in_order(text, cells, *start)));
+    all.extend(many_lines());
+    all.extend(long());
     all
 }
 
-fn broken(input: &[u8], line: u64) -> Case {
-    Case { input: input.to_vec(), due: refused(line) }
+/// The refusal that is due, or none.
+fn case(file: &[u8], due: Option<(u64, u64)>) -> Case {
+    assert_eq!(read(file).err(), due, "{:?}", String::from_utf8_lossy(&file[..file.len().min(200)]));
+    by_document(file)
 }
 
-fn in_order(text: &str, cells: &[(i64, Cell)], start: [i64; 3]) -> Case {
-    let due = at_the_edge(&Image { start, cells: cells.to_vec() }).due;
-    Case { input: text.into(), due }
+/// What document 02 has of a file.
+fn by_document(file: &[u8]) -> Case {
+    let due = match read(file) {
+        Err((refusal, line)) => refused(refusal, line),
+        Ok(Program { start, cells }) => at_the_edge(&Image { start, cells: (0..).zip(cells).collect() }),
+    };
+    Case { input: file.to_vec(), due }
 }
 
-/// Every byte that no line can hold, in the place of a digit, and after a whole image.
+/// Every byte in the place of a digit, and every byte after a whole program.
 fn bytes() -> Vec<Case> {
     let mut all = Vec::new();
-    for byte in (0..=255u8).filter(|byte| !byte.is_ascii_digit()) {
-        let mut text = b"start,0,0,0\n0,20702,0,0\n1,1,".to_vec();
-        text.extend([byte, b'5', b',', b'0', b'\n']);
-        if byte != b'-' {
-            all.push(broken(&text, 3));
-        }
-        let mut after = b"start,0,0,0\n0,20702,0,0\n".to_vec();
+    for byte in 0..=255u8 {
+        let mut text = b"start,0,0,0\nx: .word ".to_vec();
+        text.extend([byte, b'5', b'\n']);
+        all.push(by_document(&text));
+        let mut after = b"start,0,0,0\nreset\n".to_vec();
         after.push(byte);
-        all.push(broken(&after, 3));
+        all.push(case(&after, Some((TEXT, 3))));
     }
     all
 }
 
-/// The lowest broken line counts: the one in front of others, the one before lines in order, the 1,001st.
-fn later() -> Vec<Case> {
-    let many = START.to_string() + &"7,1,7,0\n".repeat(999);
+/// 2,048 lines of text, one more, and a numeric one there.
+fn many_lines() -> Vec<Case> {
+    let full = START.to_string() + &"nop\n".repeat(CELLS - 1) + "reset\n";
+    let past = CELLS as u64 + 2;
     vec![
-        broken(b"start,0,0,0\n0,0,0\n0,0,0\n", 2),
-        broken(b"start,0,0,0\n0,2,0,0\n0,0,0,0\n", 2),
-        broken(b"stat,0,0,0\n0,2,0,0\n", 1),
-        broken(b"start,0,0,0\n0,0,0,0\n\n0,0,0,0\n", 3),
-        broken(b"start,0,0,0\n0,0,0,0\nstart,0,0,0\n", 3),
-        broken((many.clone() + "2048,0,0,0\n").as_bytes(), 1_001),
-        broken((many.clone() + "0,0,0,0").as_bytes(), 1_001),
-        broken((many + "0,0,0,0\n0,0,0,0\n\n").as_bytes(), 1_003),
+        case(full.as_bytes(), None),
+        case((full.clone() + "nop\n").as_bytes(), Some((TEXT, past))),
+        case((full.clone() + "0,0,0,0\n").as_bytes(), Some((NUMERIC_LINE, past))),
+        case((full + "what\n0,0,0,0\n").as_bytes(), Some((TEXT, past))),
     ]
+}
+
+/// A file of so many bytes: a front, then spaces before an end.
+fn padded(front: &str, end: &str, bytes: usize) -> Vec<u8> {
+    let spaces = bytes - front.len() - end.len();
+    (front.to_string() + &" ".repeat(spaces) + end).into_bytes()
+}
+
+/// At the limit and past it.
+fn long() -> Vec<Case> {
+    let zeros = |bytes: usize| "start,".to_string() + &"0".repeat(bytes - 11) + ",0,0\n";
+    vec![
+        case(&padded(START, "reset\n", BYTES), None),
+        case(&padded(START, "reset\n", BYTES + 1), Some((TEXT, 2))),
+        // the byte that passes the limit begins a line
+        case(&[padded(START, "reset\n", BYTES), b"\n".to_vec()].concat(), Some((TEXT, 3))),
+        case(&[padded(START, "jmp x\n", BYTES), b"n".to_vec()].concat(), Some((TEXT, 3))),
+        // "ended within that limit", or not
+        case(&padded(&(START.to_string() + "nop\n"), "\n0,0,0,0\n", BYTES), Some((TEXT, 3))),
+        case(&padded(&(START.to_string() + "0"), "", BYTES + 1), Some((TEXT, 2))),
+        case(&numeric_to(BYTES), Some((NUMERIC_LINE, 2))),
+        case(&numeric_to(BYTES + 1), Some((TEXT, 2))),
+        // the start line itself
+        case(zeros(BYTES).as_bytes(), None),
+        case((zeros(BYTES) + "n").as_bytes(), Some((TEXT, 2))),
+        case(zeros(BYTES + 1).as_bytes(), Some((LINE, 1))),
+    ]
+}
+
+/// A numeric line that ends at this byte of the file.
+fn numeric_to(bytes: usize) -> Vec<u8> {
+    let digits = bytes - START.len() - "0,0,,0\n".len();
+    (START.to_string() + "0,0," + &"7".repeat(digits) + ",0\n").into_bytes()
 }

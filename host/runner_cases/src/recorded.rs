@@ -2,10 +2,10 @@
 
 use layout::{ROW, Row, at};
 
-use crate::Case;
-use crate::image::{Image, Ran, case};
+use crate::image::{Image, Ran, eight_lines};
 
-pub fn cases(list: &str) -> Vec<Case> {
+/// Each program and the eight lines that were recorded of it.
+pub fn programs(list: &str) -> Vec<(Image, String)> {
     let mut all = Vec::new();
     let mut open: Option<(Image, Row, Ran)> = None;
     for line in list.lines() {
@@ -23,7 +23,7 @@ pub fn cases(list: &str) -> Vec<Case> {
             (10, Some((_, _, ran))) => [ran[0], ran[1], ran[2]] = [b, c, d].map(answer),
             (21, Some((_, row, _))) => row[place(a)] = b,
             (29, Some((image, row, ran))) => {
-                all.push(case(image, *ran, row));
+                all.push((image.clone(), eight_lines(*ran, row)));
                 open = None;
             }
             _ => {}

@@ -1,6 +1,7 @@
 //! Answers written by hand: each refusal at its edges.
 
-use crate::plain::Answer;
+use written::assembler::Answer;
+
 use crate::{compare, hold};
 
 fn refused(text: &str, cells: usize, refusal: u64, place: u64) -> (String, usize, Answer) {

@@ -2,8 +2,8 @@
 
 use draws::edges;
 use draws::every;
-use draws::forms::{NAMES, split};
 use draws::rng::Rng;
+use written::lister::line;
 
 type Cell = [i64; 3];
 
@@ -11,35 +11,6 @@ type Cell = [i64; 3];
 const GUARD: u8 = 0xA5;
 
 const EMPTY: Cell = [0, 0, 0];
-
-const REGISTERS: [&str; 5] = ["a", "b", "pc", "sp", "sr"];
-
-/// "numbers in shortest decimal (index 0 as +0)"
-fn operand(mode: i64, register: i64, number: i64) -> String {
-    let name = REGISTERS[register as usize];
-    match mode {
-        1 => format!("{number}"),
-        2 => format!("%{name}"),
-        3 => format!("[{number}]"),
-        4 => format!("[%{name}]"),
-        _ => format!("[%{name}{}{}]", if number < 0 { '-' } else { '+' }, number.unsigned_abs()),
-    }
-}
-
-/// "one line a cell, without labels [...] one space after a comma and after a mnemonic or `.word` with operands, no other"
-fn line(cell: Cell) -> String {
-    let [tag, first, second] = cell;
-    if tag < 2 {
-        return format!(".word {first}\n");
-    }
-    let (form, (r1, r2)) = split(tag);
-    let name = NAMES[form.op as usize];
-    match (form.m1, form.m2) {
-        (0, _) => format!("{name}\n"),
-        (m, 0) => format!("{name} {}\n", operand(m, r1, first)),
-        (m, n) => format!("{name} {}, {}\n", operand(m, r1, first), operand(n, r2, second)),
-    }
-}
 
 /// Refusal, place and text: 9, then "16 empty cell without leave; 17 text buffer too short".
 fn due(image: &[i64], room: usize, allow_empty: u64) -> (u64, u64, String) {

@@ -2,8 +2,8 @@
 
 use draws::forms::NAMES;
 use draws::rng::Rng;
+use written::assembler::{Answer, is_form};
 
-use crate::plain::{Answer, is_form};
 use crate::{compare, hold};
 
 fn gap(rng: &mut Rng) -> String {

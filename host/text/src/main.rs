@@ -4,9 +4,8 @@
 mod directed;
 mod listed;
 mod made;
-mod plain;
 
-use plain::{Answer, assemble};
+use written::assembler::{Answer, assemble};
 
 /// What lies around a lent image and must stay.
 const GUARD: i64 = 0x5A5A_5A5A_5A5A_5A5A;

@@ -1,78 +1,48 @@
-use mathlib.Core.Path.{_≡_, sym, _∙_}
+use mathlib.Core.Path.{_∙_}
 use native.Mathlib.Omega.{arith}
-use Rattle.lines.specs.Reader.{state, brokenLine}
-use Rattle.image_run.proofs.Laws.{refused-report, run-report, refused-cells, run-cells}
+use Rattle.image_run.proofs.Laws.{file-printed, file-said}
 use borrow.Author.Needs.{needs}
 use Rattle.image_run.proofs.put_report.Statement.{statement}
 use Rattle.image_run.proofs.put_report.Tie as tie
 
-broken-line-requires : tie.Need-broken-line-requires
-broken-line-requires c κs = search needs
+no-text-requires : tie.Need-no-text-requires
+no-text-requires c κs = search needs
 
-put-refusal-requires : tie.Need-put-refusal-requires
-put-refusal-requires c κs = search needs
+slice-aggregate-put-bounded : tie.Need-slice-aggregate-put-bounded
+slice-aggregate-put-bounded c = search needs
+
+put-bounded-requires : tie.Need-put-bounded-requires
+put-bounded-requires c κs = search needs
+
+array-share-prefix-text : tie.Need-array-share-prefix-text
+array-share-prefix-text c = search needs
+
+slice-aggregate-put-loaded : tie.Need-slice-aggregate-put-loaded
+slice-aggregate-put-loaded c = search needs
+
+put-loaded-requires : tie.Need-put-loaded-requires
+put-loaded-requires c κs = (c .before .before .before .before .before .before .before .before .before .before .pre .0, omega (arith, c .before .before .before .before .put-bounded .ensures .1 .0, c .before .before .before .before .put-bounded .ensures .1 .1, c .before .before .before .before .before .before .no-text .ensures .1))
 
 same-length : tie.Need-same-length
 same-length c = search needs
 
-returns : tie.Need-returns
-returns c = let a = c .before .before .before .before .before .before .before .args in
-    let b = c .before .before .before .before .before .broken-line in
-    let taken = c .before .before .before .before .if1 .taken in
-    let s = state (a .r) (a .cells .now) in
-    let p = c .before .before .put-refusal .ensures in
-    (p .0 ∙ sym (refused-report s (b .result) (b .ensures) taken), (refused-cells s (b .result) (b .ensures) taken, p .1))
-
-slice-aggregate-put-start : tie.Need-slice-aggregate-put-start
-slice-aggregate-put-start c = search needs
-
-put-start-requires : tie.Need-put-start-requires
-put-start-requires c κs = search needs
-
-slice-aggregate-run-image : tie.Need-slice-aggregate-run-image
-slice-aggregate-run-image c = search needs
-
-run-image-requires : tie.Need-run-image-requires
-run-image-requires c κs = search needs
-
-slice-aggregate-put-run : tie.Need-slice-aggregate-put-run
-slice-aggregate-put-run c = search needs
-
-put-run-requires : tie.Need-put-run-requires
-put-run-requires c κs = search needs
-
 same-length-2 : tie.Need-same-length-2
 same-length-2 c = search needs
 
-same-length-3 : tie.Need-same-length-3
-same-length-3 c = search needs
-
-returns-2 : tie.Need-returns-2
-returns-2 c = let d = c .before .before .before .before .before .before .before in
-    let e = d .before .before .before .before in
-    let b = e .before .before .before .before .broken-line in
-    let a = e .before .before .before .before .before .before .args in
-    let s = state (a .r) (a .cells .now) in
-    let z : brokenLine (a .r) ≡ 0 = sym (b .ensures) ∙ omega arith in
-    let row = e .put-start .last .0 in
-    let m = d .run-image .ensures in
-    let p = c .before .before .put-run .ensures in
-    (p .0 ∙ run-report s row (d .run-image .last .1 .0) (d .run-image .result) z (e .put-start .ensures) (m .0) (m .1), (run-cells s row (d .run-image .last .0) z (e .put-start .ensures) (m .2), p .1))
+returns : tie.Need-returns
+returns c = let f = c .before .before .before .before .before .before .before .before .before .before .before .before .before .before .before .args .file .now in
+    (c .before .before .before .before .put-loaded .ensures .0 ∙ file-printed f _ (c .before .before .before .before .before .before .before .before .before .put-bounded .ensures .0), (c .before .before .before .before .put-loaded .ensures .1 .0 ∙ file-said f _ (c .before .before .before .before .before .before .before .before .before .put-bounded .ensures .0), c .before .before .before .before .put-loaded .ensures .1 .1))
 
 pub put-report-spec : {M : Type 1} → statement M
 put-report-spec =
     tie.close
     (tie.spec
-    broken-line-requires
-    put-refusal-requires
+    no-text-requires
+    slice-aggregate-put-bounded
+    put-bounded-requires
+    array-share-prefix-text
+    slice-aggregate-put-loaded
+    put-loaded-requires
     same-length
-    returns
-    slice-aggregate-put-start
-    put-start-requires
-    slice-aggregate-run-image
-    run-image-requires
-    slice-aggregate-put-run
-    put-run-requires
     same-length-2
-    same-length-3
-    returns-2)
+    returns)

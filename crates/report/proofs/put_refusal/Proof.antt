@@ -1,11 +1,12 @@
-use mathlib.Core.List.{[], _∷_, _++_}
+use mathlib.Core.Path.{sym, _∙_}
+use mathlib.Core.List.{[], _∷_}
 use native.Mathlib.Omega.{arith}
-use lib.ListN.{take, length-append}
+use lib.IntN.{pos}
+use lib.ListN.{length-append}
 use Rattle.io.proofs.Counting.{counts}
-use Rattle.printing.specs.Decimal.{decimal}
+use Rattle.report.specs.Text.{field}
 use Rattle.report.specs.Text.{refusalText, refusedName}
-use Rattle.printing.proofs.Laws.{put-then}
-use Rattle.report.proofs.Laws.{refusal-fits}
+use Rattle.report.proofs.Laws.{four, refusal-pieces, field-short}
 use borrow.Author.Needs.{needs}
 use Rattle.report.proofs.put_refusal.Statement.{statement}
 use Rattle.report.proofs.put_refusal.Tie as tie
@@ -16,21 +17,24 @@ slice-aggregate-put c = search needs
 put-requires : tie.Need-put-requires
 put-requires c κs = search needs
 
-put-decimal-requires : tie.Need-put-decimal-requires
-unfolding refusalText
-put-decimal-requires c κs = omega (arith, simp length-append at (refusal-fits (c .before .before .before .before .before .before .before .args .line)))
+put-count-requires : tie.Need-put-count-requires
+put-count-requires c κs = let a = c .before .before .before .before .before .before .before .args in
+    omega (arith, field-short (a .number), field-short (a .place))
+
+put-count-requires-2 : tie.Need-put-count-requires-2
+put-count-requires-2 c κs = let a = c .before .before .before .before .before .before .before .before .before .before .before .args in
+    omega (arith, field-short (a .number), field-short (a .place))
 
 put-byte-requires : tie.Need-put-byte-requires
-unfolding refusalText
-put-byte-requires c κs = omega (arith, simp length-append at (refusal-fits (c .before .before .before .before .before .before .before .before .before .before .before .args .line)))
+put-byte-requires c κs = let a = c .before .before .before .before .before .before .before .before .before .before .before .before .before .before .before .args in
+    omega (arith, field-short (a .number), field-short (a .place))
 
 same-length : tie.Need-same-length
 same-length c = search needs
 
 returns : tie.Need-returns
-unfolding refusalText
-returns c = let n = c .before .before .before .before .before .before .before .before .before .before .before .before .before .before .args .line in
-    (put-then [] refusedName (decimal n ++ (10 ∷ [])) (c .before .before .before .before .before .before .before .before .before .before .put .ensures .0) (put-then (take (c .before .before .before .before .before .before .before .before .before .before .put .result) (c .before .before .before .before .before .before .before .before .before .before .put .last .0)) (decimal n) (10 ∷ []) (c .before .before .before .before .before .before .put-decimal .ensures .0) (c .before .before .put-byte .ensures .0)), counts _ _ (omega (arith, simp length-append at (refusal-fits n))))
+returns c = let a = c .before .before .before .before .before .before .before .before .before .before .before .before .before .before .before .before .before .before .args in
+    (four refusedName (field (pos (a .number))) (field (pos (a .place))) (10 ∷ []) (c .before .before .before .before .before .before .before .before .before .before .before .before .before .before .put .ensures .0) (c .before .before .before .before .before .before .before .before .before .before .put-count .ensures .0) (c .before .before .before .before .before .before .put-count2 .ensures .0) (c .before .before .put-byte .ensures .0) ∙ sym (refusal-pieces (a .number) (a .place)), counts _ _ (omega (arith, field-short (a .number), field-short (a .place))))
 
 pub put-refusal-spec : {M : Type 1} → statement M
 put-refusal-spec =
@@ -38,7 +42,8 @@ put-refusal-spec =
     (tie.spec
     slice-aggregate-put
     put-requires
-    put-decimal-requires
+    put-count-requires
+    put-count-requires-2
     put-byte-requires
     same-length
     returns)

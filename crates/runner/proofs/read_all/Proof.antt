@@ -1,25 +1,21 @@
-use mathlib.Core.Path.{_≡_, refl, ap, _∙_}
-use mathlib.Core.List.{[]}
+use mathlib.Core.Path.{_≡_, refl}
+use Prim.Native.Nat.{_-_, _≤_}
+use native.Mathlib.Omega.{arith}
 use lib.ListN.{length}
-use Rattle.lines.specs.declared.Reader.{Reader}
-use Rattle.lines.specs.Reader.{state, opened}
-use Rattle.runner.specs.Input.{TextRead}
-use Rattle.runner.proofs.Laws.{and-read}
+use Rattle.io.proofs.Counting.{counts}
+use Rattle.runner.proofs.Laws.{grown}
 use borrow.Author.Needs.{needs}
 use Rattle.runner.proofs.read_all.Statement.{statement}
 use Rattle.runner.proofs.read_all.Tie as tie
 
 abbrev Inv-loop : tie.InvT-loop
-Inv-loop fd cells₀ r₀ turns₀ cells r turns = (length cells ≡ length cells₀) × TextRead (state opened cells₀) (state r cells)
+Inv-loop fd text₀ at₀ text at = (at ≤ length text) × (length text ≡ length text₀)
 
 abbrev μ-loop : tie.MeasureT-loop
-μ-loop fd cells₀ r₀ turns₀ cells r turns = turns
-
-open-requires : tie.Need-open-requires Inv-loop μ-loop
-open-requires c κs = search needs
+μ-loop fd text₀ at₀ text at = length text - at
 
 loop-holds : tie.Need-loop-holds Inv-loop μ-loop
-loop-holds c = (refl, record { text = []; taken = ap (λ (r : Reader). state r (c .before .args .cells .now)) (c .open .ensures) })
+loop-holds c = (omega arith, refl)
 
 read-part-requires : tie.Need-read-part-requires Inv-loop μ-loop
 read-part-requires c κs = search needs
@@ -28,24 +24,19 @@ same-length : tie.Need-same-length Inv-loop μ-loop
 same-length c = search needs
 
 returns : tie.Need-returns Inv-loop μ-loop
-returns c = and-read (c .before .before .before .before .before .before .loop .inv .1) (c .before .before .before .read-part .ensures)
-
-sub-turns : tie.Need-sub-turns Inv-loop μ-loop
-sub-turns c = search needs
+returns c = counts _ _ (omega arith)
 
 loop-less : tie.Need-loop-less Inv-loop μ-loop
-loop-less c = search needs
+loop-less c = let r = c .before .before .before .read-part in let l = c .before .before .before .before .before .before .loop in let g = grown (l .at) (r .result .at) (l .text) (r .last .1 .0) (rw (c .if1 .left) at (r .ensures .0)) (l .inv .0) (r .ensures .1 .1) in omega (arith, r .kept .1 .0)
 
 loop-again : tie.Need-loop-again Inv-loop μ-loop
-loop-again c = let v = c .before .before .before .before .before .before .loop .inv in
-    let p = c .before .before .before .read-part in
-    (p .kept .1 .0 ∙ v .0, and-read (v .1) (p .ensures))
+loop-again c = search needs
 
 same-length-2 : tie.Need-same-length-2 Inv-loop μ-loop
 same-length-2 c = search needs
 
 returns-2 : tie.Need-returns-2 Inv-loop μ-loop
-returns-2 c = c .before .loop .inv .1
+returns-2 c = counts _ _ (omega arith)
 
 pub read-all-spec : {M : Type 1} → statement M
 read-all-spec =
@@ -53,12 +44,10 @@ read-all-spec =
     (tie.spec
     Inv-loop
     μ-loop
-    open-requires
     loop-holds
     read-part-requires
     same-length
     returns
-    sub-turns
     loop-less
     loop-again
     same-length-2

@@ -1,61 +1,71 @@
-use mathlib.Core.Path.{refl}
-use mathlib.Core.List.{[]}
+use mathlib.Core.List.{_++_}
+use Prim.Native.Nat.{_-_}
 use native.Mathlib.Omega.{arith}
-use Rattle.lines.specs.Reader.{state}
-use Rattle.runner.proofs.Laws.{some-read}
+use lib.ListN.{length, take, drop}
+use Rattle.runner.proofs.Laws.{no-part, some-part, within}
 use borrow.Author.Needs.{needs}
 use Rattle.runner.proofs.read_part.Statement.{statement}
 use Rattle.runner.proofs.read_part.Tie as tie
 
-large-buffer-requires : tie.Need-large-buffer-requires
-large-buffer-requires c κs = search needs
+sub-read : tie.Need-sub-read
+sub-read c = search needs
 
-slice-aggregate-read : tie.Need-slice-aggregate-read
-slice-aggregate-read c = search needs
+part-read-start : tie.Need-part-read-start
+part-read-start c = search needs
+
+part-read-end : tie.Need-part-read-end
+part-read-end c = search needs
 
 read-requires : tie.Need-read-requires
 read-requires c κs = search needs
 
-slice-aggregate-count : tie.Need-slice-aggregate-count
-slice-aggregate-count c = search needs
+sub-count : tie.Need-sub-count
+sub-count c = search needs
+
+part-count-start : tie.Need-part-count-start
+part-count-start c = search needs
+
+part-count-end : tie.Need-part-count-end
+part-count-end c = search needs
 
 count-requires : tie.Need-count-requires
 count-requires c κs = search needs
 
-returns : tie.Need-returns
-returns c = record { part = []; taken = refl; last = refl; unread = λ f. refl }
-
-array-share-prefix-buf : tie.Need-array-share-prefix-buf
-array-share-prefix-buf c = search needs
-
-slice-aggregate-take-part : tie.Need-slice-aggregate-take-part
-slice-aggregate-take-part c = search needs
-
-take-part-requires : tie.Need-take-part-requires
-take-part-requires c κs = search needs
-
 same-length : tie.Need-same-length
 same-length c = search needs
 
+returns : tie.Need-returns
+returns c = let a = c .before .before .before .before .before .before .before .before .before .args in (no-part (a .at) (a .text .now) _ _ (c .before .before .before .before .before .before .before .before .before .pre), (omega arith, omega (arith, c .before .before .before .before .before .text .given)))
+
+add-t7 : tie.Need-add-t7
+add-t7 c = search needs
+
+same-length-2 : tie.Need-same-length-2
+same-length-2 c = search needs
+
 returns-2 : tie.Need-returns-2
-returns-2 c = let q = c .before .take-part in
-    let e = c .before .before .before .before in
-    let k = e .before .count in
-    let a = e .before .before .before .before .before .before .before .args in
-    some-read (state (a .r) (a .cells .now)) _ (k .result) _ (omega (arith, e .if1 .left)) (k .ensures .0 .1) (q .ensures)
+returns-2 c = let s = c .before .before .before .before .before .before .before .before .before in
+    let a = s .args in
+    let x = a .text .now in
+    let n = c .before .count in
+    let t = take (a .at) x ++ (c .before .before .before .before .before .before .read .last .1 .0 ++ drop (length x - a .at) (drop (a .at) x)) in
+    let w = within (a .at) (length t - a .at) (n .result) t (n .ensures .0 .0) (omega (arith, c .before .before .before .before .before .text .given)) in
+    (some-part (a .at) (n .result) x _ (s .pre) (omega (arith, c .if1 .left)) w, (omega arith, w))
 
 pub read-part-spec : {M : Type 1} → statement M
 read-part-spec =
     tie.close
     (tie.spec
-    large-buffer-requires
-    slice-aggregate-read
+    sub-read
+    part-read-start
+    part-read-end
     read-requires
-    slice-aggregate-count
+    sub-count
+    part-count-start
+    part-count-end
     count-requires
-    returns
-    array-share-prefix-buf
-    slice-aggregate-take-part
-    take-part-requires
     same-length
+    returns
+    add-t7
+    same-length-2
     returns-2)

@@ -1,0 +1,4 @@
+pub mod Laws
+pub mod Said
+pub mod Decimals
+pub mod Lowest
