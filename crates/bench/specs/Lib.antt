@@ -1,0 +1,4 @@
+pub mod Seat
+pub mod Bench
+pub mod Clock
+pub mod Laws
