@@ -18,8 +18,7 @@ use Rattle.seats.specs.Meaning.{ranAt}
 -- a part that is put back as it was
 same-part : {A : Type 0} (n k : ℕ) (xs : List A) → withPart n k (partOf n k xs) xs ≡ xs
 unfolding withPart
-same-part n k xs =
-    let size = length xs / n in
+same-part {A = A} n k xs =
     ap (λ (r : List A). take (k * (length xs / n)) xs ++ r) (take-append-drop (length xs / n) (drop (k * (length xs / n)) xs)) ∙ take-append-drop (k * (length xs / n)) xs
 
 same-machine : (n k : ℕ) (b : Lent) → withMachine n k (machineAt n k b) b ≡ b
