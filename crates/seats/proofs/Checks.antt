@@ -1,13 +1,14 @@
 -- The seats from place k on, checked one after another.
-use mathlib.Core.Path.{_≡_, sym, ap, _∙_}
+use mathlib.Core.Path.{_≡_, refl, sym, ap, _∙_}
 use mathlib.Core.Bool.{Bool, true, false, cond}
 use mathlib.Core.List.{_∷_}
 use Prim.Native.Nat.{ℕ, suc, _+_, _-_, _<_, _≤_}
 use native.Mathlib.Omega.{arith}
 use native.Mathlib.Numerals.{add-one}
+use lib.ListN.{length}
 use Rattle.definition.specs.Calls.{Lent, passes, runCheck}
 use Rattle.bench.specs.declared.Benched.{Benched}
-use Rattle.bench.specs.Bench.{machineAt, machines, benched, seatBySeat}
+use Rattle.bench.specs.Bench.{machineAt, machines, benched, seatsFit, seatBySeat, benchCheck}
 
 module _ (n : ℕ) (b : Lent) where
   abbrev pub checkFrom : ℕ → Benched
@@ -40,3 +41,21 @@ module _ (n : ℕ) (b : Lent) where
 
   pub from-first : checkFrom 0 ≡ seatBySeat 1 (machines n n 0 b)
   from-first = let e : n - 0 ≡ n = omega arith in ap (λ (j : ℕ). seatBySeat 1 (machines n j 0 b)) e
+
+-- 19 comes before the seats' own tests
+module _ (n m : ℕ) (b : Lent) where
+  abbrev fits : Bool
+  fits = seatsFit n m (length (b .cells)) (length (b .queue)) (length (b .output)) (length (b .row))
+
+  abbrev byFit : Bool → Benched
+  byFit t = cond t (seatBySeat 1 (machines n n 0 b)) (benched 19 0 0 0)
+
+  check-is : benchCheck n m b ≡ byFit fits
+  unfolding benchCheck
+  check-is = refl
+
+  pub seats-fitting : fits ≡ true → seatBySeat 1 (machines n n 0 b) ≡ benchCheck n m b
+  seats-fitting e = sym (check-is ∙ ap byFit e)
+
+  pub seats-not-fitting : fits ≡ false → benched 19 0 0 0 ≡ benchCheck n m b
+  seats-not-fitting e = sym (check-is ∙ ap byFit e)

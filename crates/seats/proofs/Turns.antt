@@ -2,7 +2,8 @@
 use mathlib.Core.Path.{_≡_, refl, sym, ap, _∙_}
 use mathlib.Core.Bool.{Bool, true, false, cond, _&&_}
 use mathlib.Core.List.{List, _++_}
-use Prim.Native.Nat.{ℕ, _*_, _/_}
+use Prim.Native.Nat.{ℕ, _*_, _/_, _<_, _≤_, _^_}
+use native.Mathlib.Omega.{arith}
 use lib.Dec.{ltb}
 use lib.ListN.{length, take, drop, take-append-drop}
 use Rattle.definition.specs.declared.Ran.{Ran}
@@ -14,6 +15,7 @@ use Rattle.bench.specs.Seat.{canGoOn, turnBudget, after}
 use Rattle.bench.specs.Bench.{Seated, seated, partOf, machineAt, takesTurn, turn, turned, taken}
 use Rattle.bench.specs.Clock.{withPart, withMachine, seatedAt, turnOf}
 use Rattle.seats.specs.Meaning.{ranAt}
+use Rattle.seats.proofs.Stops.{call-few}
 
 -- a part that is put back as it was
 same-part : {A : Type 0} (n k : ℕ) (xs : List A) → withPart n k (partOf n k xs) xs ≡ xs
@@ -47,3 +49,10 @@ module _ (s : Seat) (c : Clock) (b : Lent) where
   pub turn-passed : Taking ≡ false → called (record { steps = 0; stop = s .stop }) b ≡ turnOf s c b
   turn-passed t =
       ap (λ (l : Lent). called {A = Took} (record { steps = 0; stop = s .stop }) l) (sym (same-machine (c .seats) (c .at) b)) ∙ sym (turn-is ∙ ap byTurn t)
+
+-- the stop fits 32 bits
+pub ran-few : (n k budget : ℕ) (b : Lent) (x : Ran) (l : Lent) → called x l ≡ ranAt n k budget b → x .stop < 2 ^ 32
+ran-few n k budget b x l e =
+    let f = call-few budget (machineAt n k b) in
+    let s : x .stop ≡ runCall budget (machineAt n k b) .answer .stop = ap (λ (y : Called Ran Lent). y .answer .stop) e in
+    omega (arith, f, s)
