@@ -38,8 +38,15 @@ pub fn bench(program: &Program, steps: u64) -> (u64, Class) {
     let total = whole(steps);
     let Class { cells, queues, outputs, rows } = &mut class;
     let spent = clock::time(|| {
-        let answer =
-            z33::bench(&mut list[..], &mut cells[..], &mut queues[..], &mut outputs[..], &mut rows[..], SEATS_MOST, total);
+        let answer = z33::bench(
+            &mut list[..],
+            &mut cells[..],
+            &mut queues[..],
+            &mut outputs[..],
+            &mut rows[..],
+            SEATS_MOST,
+            total,
+        );
         assert_eq!((answer.refusal, answer.left), (0, 0), "{}: the bench", program.name);
     });
     assert!(list.iter().all(|seat| seat.used == total / SEATS_MOST), "{}: a seat's steps", program.name);
@@ -52,7 +59,10 @@ pub fn singles(program: &Program, steps: u64) -> (u64, Class) {
     let Class { cells, queues, outputs, rows } = &mut class;
     let spent = clock::time(|| {
         let cells = cells.chunks_exact_mut(program.cells.len());
-        let parts = cells.zip(queues.chunks_exact_mut(QUEUE)).zip(outputs.chunks_exact_mut(OUTPUT)).zip(rows.chunks_exact_mut(ROW));
+        let parts = cells
+            .zip(queues.chunks_exact_mut(QUEUE))
+            .zip(outputs.chunks_exact_mut(OUTPUT))
+            .zip(rows.chunks_exact_mut(ROW));
         for (((cells, queue), output), row) in parts {
             let ran = z33::run(cells, queue, output, row, budget);
             assert_eq!((ran.refusal, ran.steps), (0, budget), "{}: a single run", program.name);

@@ -57,10 +57,19 @@ impl Check {
     }
 
     /// The refusal of this number and place, at this seat, is due.
-    fn due(&mut self, trial: &Trial, (refusal, place, seat): (u64, u64, u64), why: &str) -> Result<(), String> {
+    fn due(
+        &mut self,
+        trial: &Trial,
+        (refusal, place, seat): (u64, u64, u64),
+        why: &str,
+    ) -> Result<(), String> {
         let answer = self.held(trial)?;
         let due = z33::Benched { refusal, place, seat, left: 0 };
-        if answer == due { Ok(()) } else { Err(format!("{} with {why}: {answer:?}, due {due:?}", trial.told())) }
+        if answer == due {
+            Ok(())
+        } else {
+            Err(format!("{} with {why}: {answer:?}, due {due:?}", trial.told()))
+        }
     }
 
     fn without_fault(&mut self, seats: usize) -> Result<(), String> {
@@ -105,7 +114,8 @@ impl Check {
 
     /// Every fault of a machine, of each seat of a full bench and of two seats of the others; a length is every seat's.
     fn each_fault(&mut self, seats: usize) -> Result<(), String> {
-        let chosen = if seats == MOST { (1..=MOST).collect() } else { vec![self.rng.below(seats) + 1, seats] };
+        let chosen =
+            if seats == MOST { (1..=MOST).collect() } else { vec![self.rng.below(seats) + 1, seats] };
         for (round, seat) in chosen.into_iter().enumerate() {
             let (trial, seated) = draw::draw(&mut self.rng, seats);
             for fault in faults::of(&mut self.rng, &seated[seat - 1].machine) {
@@ -122,8 +132,11 @@ impl Check {
         let mut seated = seated.to_vec();
         let mut due = None;
         for seat in 1..=seated.len() {
-            let own: Vec<Fault> =
-                faults.iter().filter(|(at, fault)| *at == seat || is_length(*fault)).map(|(_, fault)| *fault).collect();
+            let own: Vec<Fault> = faults
+                .iter()
+                .filter(|(at, fault)| *at == seat || is_length(*fault))
+                .map(|(_, fault)| *fault)
+                .collect();
             let (refusal, place) = faults::apply(&mut seated[seat - 1].machine, &own);
             if refusal != 0 && due.is_none() {
                 due = Some((refusal, place, seat as u64));
@@ -146,7 +159,8 @@ impl Check {
                             faults::apply(&mut seated.machine, &[fault]);
                         }
                     }
-                    let of_kind: Vec<Cause> = causes::of(seats).into_iter().filter(|cause| cause.kind() == kind).collect();
+                    let of_kind: Vec<Cause> =
+                        causes::of(seats).into_iter().filter(|cause| cause.kind() == kind).collect();
                     let (trial, cause) = (Trial::of(&seated, trial.total), self.rng.pick(&of_kind));
                     self.cause(&trial, cause)?;
                     self.seen.met(&format!("19 by {kind} before {class:?}"));
@@ -165,7 +179,8 @@ impl Check {
                     let (trial, seated) = draw::draw(&mut self.rng, seats);
                     let lower = self.rng.between(1, seats as i64 - 1) as usize;
                     let higher = self.rng.between(lower as i64 + 1, seats as i64) as usize;
-                    let (one, two) = (self.of_class(&seated[lower - 1], *low), self.of_class(&seated[higher - 1], *high));
+                    let (one, two) =
+                        (self.of_class(&seated[lower - 1], *low), self.of_class(&seated[higher - 1], *high));
                     self.faults(&trial, &seated, &[(higher, two), (lower, one)])?;
                     self.seen.met(&format!("{low:?} of a lower seat before {high:?}"));
                 }
@@ -212,7 +227,10 @@ impl Check {
 
 /// Parts are equally long, so that such a fault is every seat's.
 fn is_length(fault: Fault) -> bool {
-    matches!(fault, Fault::CellsLength(_) | Fault::QueueLength(_) | Fault::OutputLength(_) | Fault::RowLength(_))
+    matches!(
+        fault,
+        Fault::CellsLength(_) | Fault::QueueLength(_) | Fault::OutputLength(_) | Fault::RowLength(_)
+    )
 }
 
 /// Whether one seat can have it without the others.

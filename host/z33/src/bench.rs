@@ -69,7 +69,15 @@ impl Bench {
     /// steps, what is left of the seat's limit and what is left of the total; they go round from seat 1 and pass over who cannot go on.
     pub fn run(&mut self, total: u64) -> Result<u64, SeatRefusal> {
         let seats = self.list.len() as u64;
-        lent::bench(&mut self.list, &mut self.cells, &mut self.queues, &mut self.outputs, &mut self.rows, seats, total)
+        lent::bench(
+            &mut self.list,
+            &mut self.cells,
+            &mut self.queues,
+            &mut self.outputs,
+            &mut self.rows,
+            seats,
+            total,
+        )
     }
 
     /// The records, seat 1 first.

@@ -35,6 +35,9 @@ impl Seat {
 /// A list of these is lent as one of C's.
 const _: () = {
     assert!(size_of::<Seat>() == size_of::<z33_seat>() && align_of::<Seat>() == align_of::<z33_seat>());
-    assert!(offset_of!(Seat, limit) == offset_of!(z33_seat, limit) && offset_of!(Seat, used) == offset_of!(z33_seat, used));
+    assert!(
+        offset_of!(Seat, limit) == offset_of!(z33_seat, limit)
+            && offset_of!(Seat, used) == offset_of!(z33_seat, used)
+    );
     assert!(offset_of!(Seat, stop) == offset_of!(z33_seat, stop));
 };

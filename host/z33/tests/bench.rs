@@ -70,7 +70,10 @@ fn a_seat_has_its_own_console() {
         let part = bench.part(seat);
         assert_eq!((part.row[at::OUTPUT_COUNT], part.output[0]), (1, byte[0]));
         let mut machine = bench.machine(seat).unwrap();
-        assert_eq!((machine.drain(), machine.register(Register::A)), (byte.to_vec(), Cell::Word(byte[0].into())));
+        assert_eq!(
+            (machine.drain(), machine.register(Register::A)),
+            (byte.to_vec(), Cell::Word(byte[0].into()))
+        );
     }
 }
 
@@ -108,8 +111,13 @@ fn lengths_are_refused_by_name() {
     };
     let seat_1 = |refusal| Err(SeatRefusal { refusal, seat: 1 });
     assert_eq!(lengths(2 * 768, 2, 0, 40), Ok(1));
-    for (cells, queues, outputs, rows) in [(2 * 768 + 1, 2, 0, 40), (2 * 768, 3, 0, 40), (2 * 768, 2, 1, 40), (2 * 768, 2, 0, 41)] {
-        assert_eq!(lengths(cells, queues, outputs, rows), Err(SeatRefusal { refusal: Refusal::Seats, seat: 0 }));
+    for (cells, queues, outputs, rows) in
+        [(2 * 768 + 1, 2, 0, 40), (2 * 768, 3, 0, 40), (2 * 768, 2, 1, 40), (2 * 768, 2, 0, 41)]
+    {
+        assert_eq!(
+            lengths(cells, queues, outputs, rows),
+            Err(SeatRefusal { refusal: Refusal::Seats, seat: 0 })
+        );
     }
     assert_eq!(lengths(2 * 765, 0, 0, 0), seat_1(Refusal::Cells));
     assert_eq!(lengths(2 * 768, 0, 0, 0), seat_1(Refusal::Queue));
@@ -126,6 +134,13 @@ fn there_is_no_other_seat() {
 #[test]
 fn a_record_of_32_bits_is_taken_over() {
     assert_eq!(Seat::take_over(u32::MAX, 7, 2), Seat { limit: 4_294_967_295, used: 7, stop: 2 });
-    assert_eq!(Seat::take_over(5, u32::MAX, u32::MAX), Seat { limit: 5, used: 4_294_967_295, stop: u32::MAX });
-    assert!(Seat::take_over(8, 7, 0).can_go_on() && !Seat::take_over(8, 8, 0).can_go_on() && !Seat::take_over(8, 7, 1).can_go_on());
+    assert_eq!(
+        Seat::take_over(5, u32::MAX, u32::MAX),
+        Seat { limit: 5, used: 4_294_967_295, stop: u32::MAX }
+    );
+    assert!(
+        Seat::take_over(8, 7, 0).can_go_on()
+            && !Seat::take_over(8, 8, 0).can_go_on()
+            && !Seat::take_over(8, 7, 1).can_go_on()
+    );
 }

@@ -3,8 +3,8 @@
 use z33::{Benched, Seat};
 
 use super::class::{Class, Trial};
-use super::model::{self, Turn};
 use super::laws;
+use super::model::{self, Turn};
 use crate::guarded::{Guard, Guarded};
 
 #[derive(Default)]
@@ -20,7 +20,11 @@ pub struct Asked {
 
 impl Guard for Seat {
     fn guard(place: usize) -> Self {
-        Seat { limit: i64::guard(place) as u64, used: i64::guard(place + 1) as u64, stop: i64::guard(place + 2) as u32 }
+        Seat {
+            limit: i64::guard(place) as u64,
+            used: i64::guard(place + 1) as u64,
+            stop: i64::guard(place + 2) as u32,
+        }
     }
 }
 
@@ -46,7 +50,8 @@ impl Asked {
             return Err(format!("{}, answered {answer:?}: {what}", trial.told()));
         }
         if answer.refusal == 0 {
-            laws::hold(trial, &mut self.due, answer.left).map_err(|why| format!("{}, answered {answer:?}: {why}", trial.told()))?;
+            laws::hold(trial, &mut self.due, answer.left)
+                .map_err(|why| format!("{}, answered {answer:?}: {why}", trial.told()))?;
         }
         Ok(Held { answer, turns, list: self.due.list.clone() })
     }

@@ -18,8 +18,17 @@ pub enum Cause {
     Rows(usize),
 }
 
-pub const KINDS: [&str; 9] =
-    ["no seats", "over 16 seats", "seats past 32 bits", "another number of seats", "the list", "cells", "queues", "outputs", "rows"];
+pub const KINDS: [&str; 9] = [
+    "no seats",
+    "over 16 seats",
+    "seats past 32 bits",
+    "another number of seats",
+    "the list",
+    "cells",
+    "queues",
+    "outputs",
+    "rows",
+];
 
 impl Cause {
     pub fn kind(self) -> &'static str {

@@ -29,7 +29,11 @@ const LONGEST_ONCE_IN: usize = 200;
 
 /// The seats, apart and as they are lent.
 pub fn draw(rng: &mut Rng, seats: usize) -> (Trial, Vec<Seated>) {
-    let cells = if rng.once_in(LONGEST_ONCE_IN) { CELLS_MOST } else { rng.pick(&[CELLS_LEAST, CELLS_LEAST, CELLS_LEAST + 1, 300]) };
+    let cells = if rng.once_in(LONGEST_ONCE_IN) {
+        CELLS_MOST
+    } else {
+        rng.pick(&[CELLS_LEAST, CELLS_LEAST, CELLS_LEAST + 1, 300])
+    };
     let (queue, output) = (accepted::queue_length(rng), accepted::output_length(rng));
     let record = if rng.once_in(3) { going } else { record };
     let mut ends = true;
@@ -91,7 +95,8 @@ fn program(rng: &mut Rng, machine: &mut trial::Trial) -> bool {
             false
         }
         _ => {
-            let (steps, why) = (rng.pick(&[0, 1, 50, 98, 99, 100, 101, 102, 150, 198, 199]), rng.between(1, 7) as u64);
+            let (steps, why) =
+                (rng.pick(&[0, 1, 50, 98, 99, 100, 101, 102, 150, 198, 199]), rng.between(1, 7) as u64);
             stops_after(machine, steps, why);
             true
         }
@@ -130,7 +135,9 @@ fn stops_after(machine: &mut trial::Trial, steps: usize, why: u64) {
     match why {
         stop::NO_HANDLER => put(machine, INTERRUPT_HANDLER as usize, EMPTY),
         // an instruction where rti takes pc from, unless that is where it stands
-        stop::CELL_ERROR if steps != INTERRUPT_PC_SAVE as usize => put(machine, INTERRUPT_PC_SAVE as usize, nop),
+        stop::CELL_ERROR if steps != INTERRUPT_PC_SAVE as usize => {
+            put(machine, INTERRUPT_PC_SAVE as usize, nop)
+        }
         stop::OUTPUT_FULL => machine.lent.row[at::OUTPUT_COUNT] = machine.lent.output.len() as i64,
         stop::CYCLES_FULL => machine.lent.row[at::CYCLES] = i64::MAX - steps as i64,
         _ => {}

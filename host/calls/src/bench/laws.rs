@@ -17,7 +17,9 @@ pub fn hold(trial: &Trial, after: &mut Class, left: u64) -> Result<(), String> {
 
 /// "Steps used add up to what left the total, counted from what the list held before."
 fn adds_up(before: &[Seat], after: &[Seat], total: u64, left: u64) -> Result<(), String> {
-    let sum = |list: &[Seat], total: u64| list.iter().map(|seat| u128::from(seat.used)).sum::<u128>() + u128::from(total);
+    let sum = |list: &[Seat], total: u64| {
+        list.iter().map(|seat| u128::from(seat.used)).sum::<u128>() + u128::from(total)
+    };
     let kept = before.iter().zip(after).all(|(b, a)| {
         a.limit == b.limit && b.used <= a.used && a.used <= b.limit.max(b.used) && (can_go_on(b) || a == b)
     });
@@ -40,7 +42,12 @@ fn waited(before: &[Seat], after: &[Seat]) -> Result<(), String> {
     let taken = |at: usize| after[at].used - before[at].used;
     for waiting in (0..after.len()).filter(|at| can_go_on(&after[*at])) {
         if let Some(other) = (0..after.len()).find(|other| taken(*other) > taken(waiting) + TURN_MOST) {
-            return Err(format!("seat {} waited for {} steps of seat {}", waiting + 1, taken(other) - taken(waiting), other + 1));
+            return Err(format!(
+                "seat {} waited for {} steps of seat {}",
+                waiting + 1,
+                taken(other) - taken(waiting),
+                other + 1
+            ));
         }
     }
     Ok(())
@@ -55,14 +62,23 @@ fn by_itself(before: &Class, after: &mut Class, at: usize) -> Result<(), String>
     let budget = last.used - first.used + u64::from(stopped);
     let Machine { cells, queue, output, row } = machine_of(after, seats, at);
     let mut due = before.clone_part(at);
-    let ran = plain::run(&mut due.cells, &mut due.queues, &mut due.outputs, due.rows.as_mut_slice().try_into().expect("a row"), budget);
+    let ran = plain::run(
+        &mut due.cells,
+        &mut due.queues,
+        &mut due.outputs,
+        due.rows.as_mut_slice().try_into().expect("a row"),
+        budget,
+    );
     let stop = if can_go_on(&first) { ran.stop as u32 } else { first.stop };
     let same = due.cells == cells && due.queues == queue && due.outputs == output && due.rows == row;
     if same && stop == last.stop && ran.steps == last.used - first.used {
         Ok(())
     } else {
         let (stop, steps) = (ran.stop, ran.steps);
-        Err(format!("seat {} is not where {budget} steps by itself lead, stop {stop} after {steps}, or its machine is another", at + 1))
+        Err(format!(
+            "seat {} is not where {budget} steps by itself lead, stop {stop} after {steps}, or its machine is another",
+            at + 1
+        ))
     }
 }
 

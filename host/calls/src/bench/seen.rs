@@ -18,7 +18,11 @@ use super::model::{Turn, can_go_on};
 /// Refusals by number and place that a seat can get; a damaged cell counts without its address.
 pub static SEAT_CLASSES: LazyLock<Vec<(u64, u64)>> = LazyLock::new(|| {
     let ranged = RANGED.map(|place| (ROW, from_1(place)));
-    [(CELLS, 0), (QUEUE, 0), (OUTPUT, 0), (ROW, 0)].into_iter().chain(ranged).chain([(DAMAGED_CELL, 0)]).collect()
+    [(CELLS, 0), (QUEUE, 0), (OUTPUT, 0), (ROW, 0)]
+        .into_iter()
+        .chain(ranged)
+        .chain([(DAMAGED_CELL, 0)])
+        .collect()
 });
 
 /// Around the steps of a turn.
@@ -65,9 +69,13 @@ impl Seen {
 
     fn empty_buffers(&mut self, trial: &Trial) {
         let [cells, queues, outputs, rows] = trial.lent.lengths();
-        for (name, length) in
-            [("list", trial.lent.list.len()), ("cells", cells), ("queues", queues), ("outputs", outputs), ("rows", rows)]
-        {
+        for (name, length) in [
+            ("list", trial.lent.list.len()),
+            ("cells", cells),
+            ("queues", queues),
+            ("outputs", outputs),
+            ("rows", rows),
+        ] {
             self.met_if(length == 0, &format!("{name} empty, null {}", trial.null));
         }
     }
@@ -86,7 +94,10 @@ impl Seen {
             self.met_if(*stop == 0 && used > limit, "used over the limit");
             self.met_if(*stop == 0 && *limit == u64::MAX && *used == 0, "limit 2^64 - 1, none used");
             self.met_if(*limit == u64::MAX && *used == u64::MAX, "used 2^64 - 1");
-            self.met_if(*stop == 0 && *used > u64::from(u32::MAX) && used < limit, "used past 32 bits, and goes on");
+            self.met_if(
+                *stop == 0 && *used > u64::from(u32::MAX) && used < limit,
+                "used past 32 bits, and goes on",
+            );
             match *stop {
                 0 => {}
                 stop @ 1..=7 => self.met(&format!("stop {stop} before")),
@@ -110,11 +121,17 @@ impl Seen {
                 self.met_if(ran.steps == 0, "stopped at the turn's first step");
                 self.met_if(ran.steps == TURN_MOST - 1, "stopped at the turn's hundredth step");
                 self.met_if(0 < ran.steps && ran.steps < TURN_MOST - 1, "stopped within the turn");
-                self.met_if(behind.first().is_some_and(|next| next.at > *at), "stopped, and the next seat goes on");
+                self.met_if(
+                    behind.first().is_some_and(|next| next.at > *at),
+                    "stopped, and the next seat goes on",
+                );
                 self.met_if(behind.iter().any(|next| next.at < *at), "stopped, and another round follows");
                 self.met_if(seat.used > trial.lent.list[*at].used, "stopped in a later turn");
             } else if seat.used + ran.steps == seat.limit {
-                self.met_if(behind.iter().any(|next| next.at < *at), "limit reached, and another round follows");
+                self.met_if(
+                    behind.iter().any(|next| next.at < *at),
+                    "limit reached, and another round follows",
+                );
             }
         }
     }
@@ -149,7 +166,8 @@ impl Seen {
 
     /// What it came to, or what was not met.
     pub fn complete(&self) -> Result<String, String> {
-        let missing: Vec<&str> = self.ways.iter().filter(|(_, times)| **times == 0).map(|(way, _)| way.as_str()).collect();
+        let missing: Vec<&str> =
+            self.ways.iter().filter(|(_, times)| **times == 0).map(|(way, _)| way.as_str()).collect();
         if !missing.is_empty() {
             return Err(format!("benches: {} ways not met: {}", missing.len(), missing.join("; ")));
         }
@@ -207,7 +225,9 @@ fn all_ways() -> Vec<String> {
     }
     ways.extend(KINDS.map(|kind| format!("19 by {kind}")));
     for (i, low) in SEAT_CLASSES.iter().enumerate() {
-        ways.extend(SEAT_CLASSES[i + 1..].iter().map(|high| format!("{low:?} of a seat before its {high:?}")));
+        ways.extend(
+            SEAT_CLASSES[i + 1..].iter().map(|high| format!("{low:?} of a seat before its {high:?}")),
+        );
         let own = SEAT_CLASSES.iter().filter(|high| is_own(**high) && is_own(*low));
         ways.extend(own.map(|high| format!("{low:?} of a lower seat before {high:?}")));
     }
