@@ -20,9 +20,6 @@ IsPart n k len p = (p .from ≡ k * (len / n)) × ((p .to ≡ k * (len / n) + le
 span-size : (start size from to : ℕ) → from ≡ start → to ≡ start + size → to - from ≡ size
 span-size start size from to f t = omega arith
 
-pub in-order : (n k len : ℕ) (p : Span) → IsPart n k len p → p .from ≤ p .to
-in-order n k len p h = let start = k * (len / n) in let size = len / n in omega (arith, h .0, h .1 .0)
-
 module _ {A : Type 0} (n k : ℕ) (xs : List A) (p : Span) (h : IsPart n k (length xs) p) where
   size : p .to - p .from ≡ length xs / n
   size = span-size (k * (length xs / n)) (length xs / n) (p .from) (p .to) (h .0) (h .1 .0)
