@@ -110,7 +110,7 @@ impl Check {
         Ok(())
     }
 
-    /// 17 seats that have all that is theirs, and none that have nothing.
+    /// 17 whole seats; and no seat, with nothing lent.
     fn no_seats(&mut self) -> Result<(), String> {
         let (trial, _) = draw::draw(&mut self.rng, MOST + 1);
         self.due(&trial, (19, 0, 0), "17 whole seats")?;
