@@ -79,8 +79,17 @@ impl Check {
             if answer.refusal != 0 {
                 return Err(format!("{}: {answer:?}, and nothing is wrong with it", trial.told()));
             }
+            if answer.left > 0 && self.rng.once_in(4) {
+                self.exactly(Trial { total: trial.total - answer.left, ..trial })?;
+            }
         }
         Ok(())
+    }
+
+    /// On as much as its seats take, all of it is spent.
+    fn exactly(&mut self, trial: Trial) -> Result<(), String> {
+        let answer = self.held(&trial)?;
+        if answer == z33::Benched::default() { Ok(()) } else { Err(format!("{}: {answer:?}", trial.told())) }
     }
 
     /// Each cause of 19 in a bench that is otherwise not refused.
@@ -101,7 +110,7 @@ impl Check {
         Ok(())
     }
 
-    /// 17 seats that have all that is theirs, and none that have nothing.
+    /// 17 whole seats; and no seat, with nothing lent.
     fn no_seats(&mut self) -> Result<(), String> {
         let (trial, _) = draw::draw(&mut self.rng, MOST + 1);
         self.due(&trial, (19, 0, 0), "17 whole seats")?;
@@ -142,7 +151,8 @@ impl Check {
                 due = Some((refusal, place, seat as u64));
             }
         }
-        let trial = Trial { null: self.rng.once_in(2), ..Trial::of(&seated, trial.total) };
+        let total = if self.rng.once_in(8) { 0 } else { trial.total };
+        let trial = Trial { null: self.rng.once_in(2), ..Trial::of(&seated, total) };
         self.due(&trial, due.expect("a fault"), &format!("{faults:?}"))
     }
 

@@ -65,6 +65,22 @@ impl Class {
     pub fn lengths(&self) -> [usize; 4] {
         [self.cells.len(), self.queues.len(), self.outputs.len(), self.rows.len()]
     }
+
+    /// The seat at a place from 0, as a bench of its own.
+    pub fn copy_of(&self, at: usize) -> Class {
+        fn copy<T: Clone>(buffer: &[T], seats: usize, at: usize) -> Vec<T> {
+            let length = buffer.len() / seats;
+            buffer[at * length..(at + 1) * length].to_vec()
+        }
+        let seats = self.list.len();
+        Class {
+            list: vec![self.list[at]],
+            cells: copy(&self.cells, seats, at),
+            queues: copy(&self.queues, seats, at),
+            outputs: copy(&self.outputs, seats, at),
+            rows: copy(&self.rows, seats, at),
+        }
+    }
 }
 
 /// "each in equal parts, seat 1 first": that of the seat at a place from 0.

@@ -61,7 +61,7 @@ fn by_itself(before: &Class, after: &mut Class, at: usize) -> Result<(), String>
     let stopped = can_go_on(&first) && last.stop != 0;
     let budget = last.used - first.used + u64::from(stopped);
     let Machine { cells, queue, output, row } = machine_of(after, seats, at);
-    let mut due = before.clone_part(at);
+    let mut due = before.copy_of(at);
     let ran = plain::run(
         &mut due.cells,
         &mut due.queues,
@@ -79,23 +79,5 @@ fn by_itself(before: &Class, after: &mut Class, at: usize) -> Result<(), String>
             "seat {} is not where {budget} steps by itself lead, stop {stop} after {steps}, or its machine is another",
             at + 1
         ))
-    }
-}
-
-impl Class {
-    /// A copy of a seat's part.
-    fn clone_part(&self, at: usize) -> Class {
-        fn copy<T: Clone>(buffer: &[T], seats: usize, at: usize) -> Vec<T> {
-            let length = buffer.len() / seats;
-            buffer[at * length..][..length].to_vec()
-        }
-        let seats = self.list.len();
-        Class {
-            list: vec![self.list[at]],
-            cells: copy(&self.cells, seats, at),
-            queues: copy(&self.queues, seats, at),
-            outputs: copy(&self.outputs, seats, at),
-            rows: copy(&self.rows, seats, at),
-        }
     }
 }
