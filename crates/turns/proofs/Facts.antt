@@ -1,18 +1,20 @@
 -- What the walks say of a turn and of the rounds, with no machine in it.
 use mathlib.Core.Path.{_≡_, refl, sym, ap, subst, _∙_}
-use mathlib.Core.Bool.{true}
+use mathlib.Core.Bool.{Bool, true, false, cond}
 use mathlib.Core.List.{List}
 use Prim.Native.Nat.{ℕ, _+_, _<_, _≤_, _^_}
 use native.Mathlib.Omega.{arith}
 use lib.ListN.{length, getD, set}
+use lib.Dec.{ltb, eqb}
 use Rattle.definition.specs.Calls.{Lent, lent, Called, called}
 use Rattle.definition.specs.UserMode.{Accepted}
 use Rattle.bench.specs.declared.Seat.{Seat}
+use Rattle.bench.specs.declared.Benched.{Benched}
 use Rattle.bench.specs.declared.clock.Clock.{Clock}
 use Rattle.bench.specs.declared.clock.Took.{Took}
 use Rattle.bench.specs.Seat.{noSeat, after}
-use Rattle.bench.specs.Bench.{machineAt, taken}
-use Rattle.bench.specs.Clock.{seatedAt, turnOf, next}
+use Rattle.bench.specs.Bench.{machineAt, taken, finished, benchOf, listOf, buffersOf, benched, benchCheck, benchCall}
+use Rattle.bench.specs.Clock.{seatedAt, turnOf, next, begun, answer}
 use Rattle.bench.proofs.Laws.{taken-within}
 use Rattle.bench.proofs.Loop.{used-fits, Going, Inv, taken-up, variant, at-turn, at-turn-variant, taken-up-variant, next-turn, accepted-here, in-list as listed}
 use Rattle.turns.specs.Turn.{turnCall}
@@ -71,3 +73,60 @@ module _ (n t : ℕ) (list : List Seat) (b : Lent) (l : List Seat) (d : Lent) (c
 
   pub goes : (z : Called Clock (List Seat × Lent)) → z ≡ turnCall l d c → Long z → Goes z
   goes z e h = subst Goes (sym e) (turn-goes (subst Long e h))
+
+-- ---- the call: a clock begins, and the rounds from it
+module _ (n t : ℕ) (list : List Seat) (b : Lent) where
+  abbrev check : Benched
+  check = benchCheck n (length list) b
+
+  abbrev first : Clock
+  first = begun check n t
+
+  -- a bench that is refused has nothing left, whatever the total
+  abbrev accepted-at : ℕ → Clock
+  accepted-at u = record { refusal = 0; place = 0; seat = 0; left = u; seats = n; at = 0; moved = false; runs = ltb 0 u }
+
+  abbrev refused : Clock
+  refused = record { refusal = check .refusal; place = check .place; seat = check .seat; left = 0; seats = n; at = 0; moved = false; runs = false }
+
+  first-seats : first .seats ≡ n
+  unfolding begun
+  first-seats = go (eqb (check .refusal) 0)
+    where
+      go : (k : Bool) → cond k (accepted-at t) refused .seats ≡ n
+      go true = refl
+      go false = refl
+
+  first-again : first ≡ begun check n (first .left)
+  unfolding begun
+  first-again = go (eqb (check .refusal) 0)
+    where
+      go : (k : Bool) → cond k (accepted-at t) refused ≡ cond k (accepted-at (cond k (accepted-at t) refused .left)) refused
+      go true = refl
+      go false = refl
+
+  call-again : benchCall n (first .left) list b ≡ benchCall n t list b
+  unfolding benchCall begun
+  call-again = go (eqb (check .refusal) 0)
+    where
+      done : ℕ → Called Benched (List Seat × Lent)
+      done u = let e = finished (benchOf n u list b) in called (benched 0 0 0 (e .total)) (listOf (e .seats), buffersOf (e .seats))
+
+      go : (k : Bool) → cond k (done (cond k (accepted-at t) refused .left)) (called check (list, b)) ≡ cond k (done t) (called check (list, b))
+      go true = refl
+      go false = refl
+
+  -- the clock c is what the call begins with, and the buffers are then d
+  module _ (c : Clock) (d : Lent) (began : (c ≡ first) × (d ≡ b)) where
+    pub begins : c ≡ begun (benchCheck (c .seats) (length list) d) (c .seats) (c .left)
+    begins =
+        began .0 ∙ first-again ∙ ap (λ (m : ℕ). begun (benchCheck m (length list) b) m (first .left)) (sym first-seats)
+        ∙ sym (λ i. begun (benchCheck (began .0 i .seats) (length list) (began .1 i)) (began .0 i .seats) (began .0 i .left))
+
+    pub call-is : (e : Clock) (l : List Seat) (d′ : Lent) → called (answer e) (l, d′) ≡ benchCall (c .seats) (c .left) list d → (r : Benched) → r ≡ answer e → called r (l, d′) ≡ benchCall n t list b
+    call-is e l d′ rounds-are r is =
+        ap {B = Called Benched (List Seat × Lent)} (λ (z : Benched). called z (l, d′)) is
+        ∙ rounds-are
+        ∙ (λ i. benchCall (began .0 i .seats) (began .0 i .left) list (began .1 i))
+        ∙ ap (λ (m : ℕ). benchCall m (first .left) list b) first-seats
+        ∙ call-again

@@ -12,8 +12,6 @@ ghost use Rattle.bench.specs.Bench.{machineAt, benchCheck, benchCall};
 ghost use Rattle.bench.specs.Clock.{begun, answer};
 ghost use Rattle.turns.specs.Turn.{turnCall};
 
-pub mod stub;
-
 // A record of the list, which stays.
 pub fn seat_at(list: &mut [Seat], i: usize) -> Seat
     requires { ⌜ i < length (now list) ⌝ }
@@ -35,7 +33,7 @@ pub fn turn(
     ensures { λ r. ⌜ called r (now (list .exit), lent (now (cells .exit)) (now (queues .exit)) (now (outputs .exit)) (now (rows .exit))) ≡ turnCall (now (list .entry)) (lent (now (cells .entry)) (now (queues .entry)) (now (outputs .entry)) (now (rows .entry))) c ⌝ }
 {
     let s = seat_at(list, c.at);
-    let t = stub::run_part(cells, queues, outputs, rows, c, s);
+    let t = seats::run_part(cells, queues, outputs, rows, c, s);
     bench::update(list, c.at, t.steps, t.stop);
     clock::next(c, s, t)
 }

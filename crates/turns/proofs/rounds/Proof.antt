@@ -140,10 +140,28 @@ module _ {M : Type 1} (𝓤 : URA M) (H : Heap 𝓤) (A : Atoms 𝓤) (W : Given
 
     -- what `turn` is asked, at the names that it is lent the slices under
     abbrev to-turn : Between p c → Names (five p) → Turn 𝓤 H A at-mem run .Ghost
-    to-turn u ns = (((ns .0 .0 ∷ [], (ns .1 .0 .0 ∷ [], (ns .1 .1 .0 .0 ∷ [], (ns .1 .1 .1 .0 .0 ∷ [], (ns .1 .1 .1 .1 .0 .0 ∷ [], tt))))), (fullShare, (fullShare, (fullShare, (fullShare, (fullShare, tt))))), tt,
-        (record { ptr = p .list .ptr; name = ns .0 .1; now = u .list }, (record { ptr = p .cells .ptr; name = ns .1 .0 .1; now = u .four .0 }, (record { ptr = p .queues .ptr; name = ns .1 .1 .0 .1; now = u .four .1 .0 }, (record { ptr = p .outputs .ptr; name = ns .1 .1 .1 .0 .1; now = u .four .1 .1 .0 },
-        (record { ptr = p .rows .ptr; name = ns .1 .1 .1 .1 .0 .1; now = u .four .1 .1 .1 .0 }, (u .clock-now, tt)))))),
-        (slice-vals (p .list), (slice-vals (p .cells), (slice-vals (p .queues), (slice-vals (p .outputs), (slice-vals (p .rows), (clock-mach (u .clock-now) ∷ [], tt))))))), tt)
+    to-turn u ns = (
+      (
+        (ns .0 .0 ∷ [], (ns .1 .0 .0 ∷ [], (ns .1 .1 .0 .0 ∷ [], (ns .1 .1 .1 .0 .0 ∷ [], (ns .1 .1 .1 .1 .0 .0 ∷ [], tt))))),
+        (fullShare, (fullShare, (fullShare, (fullShare, (fullShare, tt))))),
+        tt,
+        (
+          record { ptr = p .list .ptr; name = ns .0 .1; now = u .list },
+          (
+            record { ptr = p .cells .ptr; name = ns .1 .0 .1; now = u .four .0 },
+            (
+              record { ptr = p .queues .ptr; name = ns .1 .1 .0 .1; now = u .four .1 .0 },
+              (
+                record { ptr = p .outputs .ptr; name = ns .1 .1 .1 .0 .1; now = u .four .1 .1 .0 },
+                (record { ptr = p .rows .ptr; name = ns .1 .1 .1 .1 .0 .1; now = u .four .1 .1 .1 .0 }, (u .clock-now, tt)),
+              ),
+            ),
+          ),
+        ),
+        (slice-vals (p .list), (slice-vals (p .cells), (slice-vals (p .queues), (slice-vals (p .outputs), (slice-vals (p .rows), (clock-mach (u .clock-now) ∷ [], tt)))))),
+      ),
+      tt,
+    )
 
     abbrev Turned : Between p c → Clock → List Seat → Four → Type 0
     Turned u c′ l′ z′ = called c′ (l′, made z′) ≡ turnCall (u .list) (made (u .four)) (u .clock-now)

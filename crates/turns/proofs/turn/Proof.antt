@@ -56,10 +56,10 @@ use Rattle.turns.proofs.seat_at as g₁
 use Rattle.turns.proofs.seat_at.Symbol as g₁-def
 use Rattle.turns.proofs.seat_at.Symbol.{name as #seat-at}
 use Rattle.turns.proofs.seat_at.Met as g₁-thm
-use Rattle.turns.proofs.stub.run_part as g₂
-use Rattle.turns.proofs.stub.run_part.Symbol as g₂-def
-use Rattle.turns.proofs.stub.run_part.Symbol.{name as #run-part}
-use Rattle.turns.proofs.stub.run_part.Met as g₂-thm
+use Rattle.seats.proofs.run_part as g₂
+use Rattle.seats.proofs.run_part.Symbol as g₂-def
+use Rattle.seats.proofs.run_part.Symbol.{name as #run-part}
+use Rattle.seats.proofs.run_part.Met as g₂-thm
 use Rattle.bench.proofs.update as g₃
 use Rattle.bench.proofs.update.Symbol as g₃-def
 use Rattle.bench.proofs.update.Symbol.{name as #update}
@@ -137,9 +137,16 @@ module _ {M : Type 1} (𝓤 : URA M) (H : Heap 𝓤) (A : Atoms 𝓤) (W : Given
     to-seat ns = (((ns .0 .0 ∷ [], tt), (fullShare, tt), tt, (behind (seats p) (ns .0 .1) (p .list .now), (c .at, tt)), (slice-vals (p .list), (vint w64 (c .at) ∷ [], tt))), tt)
 
     abbrev to-part : Seat → Names (buffers p) → RunPart 𝓤 H A at-mem run .Ghost
-    to-part s ns = (((ns .0 .0 ∷ [], (ns .1 .0 .0 ∷ [], (ns .1 .1 .0 .0 ∷ [], (ns .1 .1 .1 .0 .0 ∷ [], tt)))), (fullShare, (fullShare, (fullShare, (fullShare, tt)))), tt,
+    to-part s ns = (
+      (
+        (ns .0 .0 ∷ [], (ns .1 .0 .0 ∷ [], (ns .1 .1 .0 .0 ∷ [], (ns .1 .1 .1 .0 .0 ∷ [], tt)))),
+        (fullShare, (fullShare, (fullShare, (fullShare, tt)))),
+        tt,
         (record { ptr = p .cells .ptr; name = ns .0 .1; now = p .cells .now }, (record { ptr = p .queues .ptr; name = ns .1 .0 .1; now = p .queues .now }, (record { ptr = p .outputs .ptr; name = ns .1 .1 .0 .1; now = p .outputs .now }, (record { ptr = p .rows .ptr; name = ns .1 .1 .1 .0 .1; now = p .rows .now }, (c, (s, tt)))))),
-        (slice-vals (p .cells), (slice-vals (p .queues), (slice-vals (p .outputs), (slice-vals (p .rows), (clock-mach c ∷ [], (seat-mach s ∷ [], tt))))))), tt)
+        (slice-vals (p .cells), (slice-vals (p .queues), (slice-vals (p .outputs), (slice-vals (p .rows), (clock-mach c ∷ [], (seat-mach s ∷ [], tt)))))),
+      ),
+      tt,
+    )
 
     abbrev to-update : List Seat → Took → Names (seats p ∷ []) → Update 𝓤 H A at-mem run .Ghost
     to-update l t ns = (((ns .0 .0 ∷ [], tt), (fullShare, tt), tt, (behind (seats p) (ns .0 .1) l, (c .at, (t .steps, (t .stop, tt)))), (slice-vals (p .list), (vint w64 (c .at) ∷ [], (vint w64 (t .steps) ∷ [], (vint w32 (t .stop) ∷ [], tt))))), tt)
@@ -256,6 +263,6 @@ turn-spec 𝓤 H 𝓜 𝓖 𝓡 =
     (tables 𝓤 H 𝓜 𝓡 code.env .C) (tables 𝓤 H 𝓜 𝓡 code.env .Λ) #turn code.function (code.unfolded 𝓤 H 𝓜 𝓡)
     (meets 𝓤 H (𝓖 .A) (givenOf 𝓤 H 𝓜 𝓖) (𝓜 .mem) (𝓡 .run) (tablesOf 𝓤 H 𝓜 (tables 𝓤 H 𝓜 𝓡 code.env))
     (cited 𝓤 H (SeatAt 𝓤 H (𝓖 .A) (𝓜 .mem) (𝓡 .run)) 𝓜 𝓡 code.env #seat-at g₁-def.routine code.calls-turns·seat-at (g₁-thm.met 𝓤 H 𝓜 𝓖 𝓡))
-    (cited 𝓤 H (RunPart 𝓤 H (𝓖 .A) (𝓜 .mem) (𝓡 .run)) 𝓜 𝓡 code.env #run-part g₂-def.routine code.calls-turns·stub·run-part (g₂-thm.met 𝓤 H 𝓜 𝓖 𝓡))
+    (cited 𝓤 H (RunPart 𝓤 H (𝓖 .A) (𝓜 .mem) (𝓡 .run)) 𝓜 𝓡 code.env #run-part g₂-def.routine code.calls-seats·run-part (g₂-thm.met 𝓤 H 𝓜 𝓖 𝓡))
     (cited 𝓤 H (Update 𝓤 H (𝓖 .A) (𝓜 .mem) (𝓡 .run)) 𝓜 𝓡 code.env #update g₃-def.routine code.calls-bench·update (g₃-thm.met 𝓤 H 𝓜 𝓖 𝓡))
     (cited 𝓤 H (Next 𝓤 H (𝓖 .A) (𝓜 .mem) (𝓡 .run)) 𝓜 𝓡 code.env #next g₄-def.routine code.calls-bench·clock·next (g₄-thm.met 𝓤 H 𝓜 𝓖 𝓡)))
