@@ -5,7 +5,7 @@
  * not cells); where the count is 0 the pointer may be null. Buffers of one call must not overlap.
  *
  * An answer begins with refusal and place. refusal 0: the call was done. Otherwise it is the number of what was wrong (below), place
- * says where, every other field is 0 and nothing that was lent has changed.
+ * says where, every other field is 0 (but z33_bench names the seat) and nothing that was lent has changed.
  *
  * How a machine is booted. z33_fresh leaves a row of zeros, so the machine is in user mode, and z33_set_register sets a, b, pc and sp but
  * not sr. Whoever boots a kernel writes sr into the row, as here: supervisor mode, a stack from cell 1,000 down, an image from cell 0 on
@@ -82,6 +82,9 @@ enum {
     Z33_OUTPUT_MOST = 65536
 };
 
+/* A bench: its seats, and the steps of a turn. */
+enum { Z33_SEATS_LEAST = 1, Z33_SEATS_MOST = 16, Z33_TURN_MOST = 100 };
+
 /* Cells and ports with a meaning of their own. */
 enum {
     Z33_INTERRUPT_PC_SAVE = 100,
@@ -139,7 +142,8 @@ enum {
     Z33_REFUSAL_LABEL = 14,       /* place: the line whose label is missing, set again or beyond 256 */
     Z33_REFUSAL_VALUE = 15,       /* place: the line with a value out of range */
     Z33_REFUSAL_EMPTY_CELL = 16,  /* the image has an empty cell, and a listing was not allowed it */
-    Z33_REFUSAL_TEXT_ROOM = 17    /* the text buffer is too short */
+    Z33_REFUSAL_TEXT_ROOM = 17,   /* the text buffer is too short */
+    Z33_REFUSAL_SEATS = 19        /* seats not 1 to 16, the list not one record a seat, or a buffer not divisible by seats; before 1 */
 };
 
 typedef struct { uint64_t refusal, place; } z33_done;
@@ -148,6 +152,10 @@ typedef struct { uint64_t refusal, place, count; } z33_drained;
 typedef struct { uint64_t refusal, place, count; } z33_counted;
 typedef struct { uint64_t refusal, place; int64_t tag, first, second; } z33_cell;
 typedef struct { uint64_t refusal, place, stop, detail; } z33_raised; /* stop 0: the exception was entered */
+typedef struct { uint64_t refusal, place, seat, left; } z33_benched;  /* seat: that of refusals 1 to 5, from 1; left: of the total */
+
+/* A seat's record in a bench list: its step limit, the steps that it has used, and its last stop (0: it may go on). */
+typedef struct { uint64_t limit, used; uint32_t stop; } z33_seat;
 
 /* ---- the calls */
 
@@ -191,6 +199,17 @@ z33_counted z33_list(const int64_t *image, size_t image_len, uint8_t *text, size
 
 /* Fills an image with sound instructions drawn from a seed; count is of cells. Refusal 9: the image is no whole number of cells. */
 z33_counted z33_exercise(int64_t *image, size_t image_len, uint64_t seed);
+
+/* A class of 1 to 16 machines under one step total. Each of the four buffers holds the parts of all seats, equally long, seat 1 first; the
+ * list has one record a seat. Turns go round from seat 1. A turn is a run on the least of 100 steps, what is left of the seat's limit and what is
+ * left of the total; a seat whose last stop is not 0, or that has used its limit, is passed over. It ends where the total is spent or no seat can
+ * go on. used grows by the steps taken, stop is that of the last turn, and left is what is left of the total. No number of the list is refused.
+ * Refusals: 19; then 1 to 5 as z33_run has them, the lowest seat first, place within that seat, with total 0 and for seats passed over too. */
+z33_benched z33_bench(z33_seat *list, size_t list_len, int64_t *cells, size_t cells_len, uint8_t *queues, size_t queues_len,
+                      uint8_t *outputs, size_t outputs_len, int64_t *rows, size_t rows_len, uint64_t seats, uint64_t total);
+
+/* The record of one that was stored in 32 bits, every number equal. */
+z33_seat z33_take_over(uint32_t limit, uint32_t used, uint32_t stop);
 
 #ifdef __cplusplus
 }

@@ -1,6 +1,8 @@
-/* The header in C: its numbers, its example as it stands there (example.inc), and its names for what is answered. */
+/* The header in C: its numbers, its example and the manual's class as they stand there (example.inc, class.inc), and its names for what is
+ * answered. */
 #include <inttypes.h>
 #include <stdio.h>
+#include <string.h>
 
 #include "numbers.h"
 
@@ -9,8 +11,13 @@ static int due(int met, const char *what) {
     return met;
 }
 
+static void class_on_one_bench(void) {
+#include "class.inc"
+}
+
 int main(void) {
 #include "example.inc"
+    class_on_one_bench();
     row[Z33_ROW_A + Z33_TAG] = -1;
     z33_done refused = z33_set_register(row, Z33_ROW_LENGTH, Z33_B, 1);
     int met = due(refused.refusal == Z33_REFUSAL_ROW && refused.place == Z33_ROW_A + 1, "a damaged a is not told by the row's refusal and place");

@@ -1,6 +1,7 @@
-// The header in C++: its numbers, its example as it stands there (example.inc), and calls over vectors.
+// The header in C++: its numbers, its example and the manual's class as they stand there (example.inc, class.inc), and calls over vectors.
 #include <cinttypes>
 #include <cstdio>
+#include <cstring>
 #include <vector>
 
 #include "numbers.h"
@@ -13,6 +14,9 @@ static bool due(bool met, const char *what) {
 int main() {
     {
 #include "example.inc"
+    }
+    {
+#include "class.inc"
     }
     std::vector<std::int64_t> cells(Z33_CELL_LENGTH * Z33_CELLS_LEAST), row(Z33_ROW_LENGTH);
     std::vector<std::uint8_t> queue(Z33_QUEUE_LEAST), output;

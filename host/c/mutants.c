@@ -85,7 +85,42 @@ enum {
     EXERCISE_NEXT_SEED,       /* exercise: the cells of the next seed */
     EXERCISE_LAST_CELL,       /* exercise: the last cell is left as it was */
     EXERCISE_RAGGED,          /* exercise: an image that is no whole number of cells is taken */
-    EXERCISE_EMPTY            /* exercise: an empty image is refused */
+    EXERCISE_EMPTY,           /* exercise: an empty image is refused */
+    BENCH_TURN_101,           /* bench: a turn has 101 steps */
+    BENCH_WHOLE_LIMIT,        /* bench: a turn has all that is left of the seat's limit */
+    BENCH_LIMIT_PASSED,       /* bench: a turn passes the seat's limit */
+    BENCH_TOTAL_PASSED,       /* bench: the last turn passes the total */
+    BENCH_REVERSED,           /* bench: turns go round from the last seat */
+    BENCH_ONE_ROUND,          /* bench: there is one round */
+    BENCH_ALL_STOP,           /* bench: nobody goes on after one has stopped */
+    BENCH_STOPPED_GOES_ON,    /* bench: a seat that had stopped before goes on */
+    BENCH_OVER_LIMIT,         /* bench: a seat that has used more than its limit has a turn */
+    BENCH_USED_NOT_ADDED,     /* bench: the steps of a turn that stops are not added */
+    BENCH_USED_REPLACED,      /* bench: used is what this call took */
+    BENCH_STOP_LOST,          /* bench: the last stop is not written */
+    BENCH_STOP_COSTS,         /* bench: a step that stops is taken off the total too */
+    BENCH_LEFT_SPENT,         /* bench: the answer is what was spent */
+    BENCH_CUT_SEATS,          /* bench: only 32 bits of the seats count */
+    BENCH_CUT_TOTAL,          /* bench: only 32 bits of the total count */
+    BENCH_CUT_LIMIT,          /* bench: only 32 bits of limit and steps used count */
+    BENCH_17_SEATS,           /* bench: 17 seats are taken */
+    BENCH_LONG_LIST,          /* bench: a list with one record too many is taken */
+    BENCH_RAGGED_CELLS,       /* bench: cells that are not divisible by seats are taken */
+    BENCH_RAGGED_QUEUES,      /* bench: queues that are not divisible by seats are taken */
+    BENCH_RAGGED_OUTPUTS,     /* bench: outputs that are not divisible by seats are taken */
+    BENCH_RAGGED_ROWS,        /* bench: rows that are not divisible by seats are taken */
+    BENCH_CELLS_BEFORE_SEATS, /* bench: 1 comes before 19 */
+    BENCH_STOP_REFUSED,       /* bench: a last stop over 7 is refused */
+    BENCH_SEAT_FROM_0,        /* bench: the refused seat is counted from 0 */
+    BENCH_HIGHEST_SEAT,       /* bench: of several refused seats the highest is told */
+    BENCH_PLACE_IN_BUFFER,    /* bench: a damaged cell's place is that in the whole buffer */
+    BENCH_PASSED_UNTESTED,    /* bench: a seat that cannot go on is not tested */
+    BENCH_TOTAL_0_UNTESTED,   /* bench: with total 0 no seat is tested */
+    BENCH_TESTED_IN_TURN,     /* bench: a seat is tested at its turn, when others have run */
+    BENCH_USED_AT_REFUSAL,    /* bench: a refused bench's list has changed */
+    TAKE_OVER_SIGNED,         /* take over: 32 bits are read as a signed number */
+    TAKE_OVER_SWAPPED,        /* take over: limit and steps used are exchanged */
+    TAKE_OVER_STOP_LOST       /* take over: the stop is 0 */
 };
 
 enum {
@@ -129,6 +164,8 @@ z33_done whole_z33_set_register(int64_t *, size_t, uint64_t, int64_t);
 z33_raised whole_z33_raise(int64_t *, size_t, int64_t *, size_t, uint64_t);
 
 z33_counted whole_z33_exercise(int64_t *, size_t, uint64_t);
+z33_benched whole_z33_bench(z33_seat *, size_t, int64_t *, size_t, uint8_t *, size_t, uint8_t *, size_t, int64_t *, size_t, uint64_t, uint64_t);
+z33_seat whole_z33_take_over(uint32_t, uint32_t, uint32_t);
 
 z33_done z33_fresh(int64_t *cells, size_t cells_len, int64_t *row, size_t row_len) {
     if (MUTANT == MOST_CELLS && cells_len == 30003) {
@@ -504,4 +541,134 @@ z33_counted z33_exercise(int64_t *image, size_t image_len, uint64_t seed) {
     z33_counted counted = whole_z33_exercise(image, image_len, seed);
     if (keeps) memcpy(image + image_len - 3, last, sizeof last);
     return counted;
+}
+
+/* A bench, written once more so that it can be wrong. */
+typedef struct {
+    z33_seat *list;
+    int64_t *cells, *rows;
+    uint8_t *queues, *outputs;
+    size_t list_len, cells_len, queues_len, outputs_len, rows_len;
+    uint64_t seats;
+} class_of;
+
+/* A run of the seat at place k, from 0. */
+static z33_ran seat_run(const class_of *c, uint64_t k, uint64_t budget) {
+    size_t cells = c->cells_len / c->seats, queue = c->queues_len / c->seats, output = c->outputs_len / c->seats, row = c->rows_len / c->seats;
+    return whole_z33_run(c->cells + k * cells, cells, c->queues + k * queue, queue, c->outputs + k * output, output, c->rows + k * row, row, budget);
+}
+
+static int seats_fit(const class_of *c) {
+    uint64_t n = c->seats, most = MUTANT == BENCH_17_SEATS ? 17 : 16;
+    if (n < 1 || n > most) {
+        return 0;
+    }
+    return (c->list_len == n || (MUTANT == BENCH_LONG_LIST && c->list_len == n + 1)) && (c->cells_len % n == 0 || MUTANT == BENCH_RAGGED_CELLS) &&
+           (c->queues_len % n == 0 || MUTANT == BENCH_RAGGED_QUEUES) && (c->outputs_len % n == 0 || MUTANT == BENCH_RAGGED_OUTPUTS) &&
+           (c->rows_len % n == 0 || MUTANT == BENCH_RAGGED_ROWS);
+}
+
+static int can_go_on(const z33_seat *s) {
+    int cut = MUTANT == BENCH_CUT_LIMIT;
+    return s->stop == 0 && (cut ? (uint32_t)s->used < (uint32_t)s->limit : s->used < s->limit);
+}
+
+/* What a bench is refused with, or refusal 0. */
+static z33_benched bench_refused(const class_of *c, uint64_t total) {
+    z33_benched refused = {0, 0, 0, 0};
+    int few = c->seats >= 1 && c->seats <= 16 && c->cells_len / c->seats < 3 * 256;
+    if (MUTANT == BENCH_CELLS_BEFORE_SEATS && few) {
+        return (z33_benched){1, 0, 1, 0};
+    }
+    if (!seats_fit(c)) {
+        return (z33_benched){19, 0, 0, 0};
+    }
+    int untested = MUTANT == BENCH_TESTED_IN_TURN || (MUTANT == BENCH_TOTAL_0_UNTESTED && total == 0);
+    for (uint64_t k = 0; k < c->seats && !untested && (refused.refusal == 0 || MUTANT == BENCH_HIGHEST_SEAT); k++) {
+        z33_ran ran = seat_run(c, k, 0);
+        if (MUTANT == BENCH_STOP_REFUSED && c->list[k].stop > 7) {
+            return (z33_benched){19, 0, 0, 0};
+        }
+        if (ran.refusal != 0 && !(MUTANT == BENCH_PASSED_UNTESTED && !can_go_on(c->list + k))) {
+            uint64_t before = MUTANT == BENCH_PLACE_IN_BUFFER && ran.refusal == 5 ? k * (c->cells_len / c->seats / 3) : 0;
+            refused = (z33_benched){ran.refusal, ran.place + before, k + (MUTANT != BENCH_SEAT_FROM_0), 0};
+        }
+    }
+    return refused;
+}
+
+static uint64_t turn_budget(const z33_seat *s, uint64_t left) {
+    uint64_t least = MUTANT == BENCH_WHOLE_LIMIT ? UINT64_MAX : MUTANT == BENCH_TURN_101 ? 101 : 100;
+    uint64_t rest = MUTANT == BENCH_CUT_LIMIT ? (uint32_t)s->limit - (uint32_t)s->used : s->limit - s->used;
+    if (rest < least && MUTANT != BENCH_LIMIT_PASSED) {
+        least = rest;
+    }
+    return left < least && MUTANT != BENCH_TOTAL_PASSED ? left : least;
+}
+
+static z33_benched bench_otherwise(const class_of *c, uint64_t total) {
+    z33_benched answer = bench_refused(c, total);
+    if (answer.refusal != 0) {
+        if (MUTANT == BENCH_USED_AT_REFUSAL && answer.refusal == 5) {
+            c->list[0].used++;
+        }
+        return answer;
+    }
+    uint64_t left = total, began[17];
+    int moved = 1, over[17] = {0};
+    for (uint64_t k = 0; k < c->seats; k++) {
+        began[k] = c->list[k].used;
+        over[k] = MUTANT == BENCH_OVER_LIMIT && c->list[k].stop == 0 && c->list[k].used > c->list[k].limit;
+        if (MUTANT == BENCH_STOPPED_GOES_ON) c->list[k].stop = 0;
+    }
+    while (left > 0 && moved) {
+        moved = 0;
+        for (uint64_t i = 0; i < c->seats && left > 0; i++) {
+            uint64_t k = MUTANT == BENCH_REVERSED ? c->seats - 1 - i : i;
+            z33_seat *s = c->list + k;
+            if (!can_go_on(s) && !over[k]) {
+                continue;
+            }
+            over[k] = 0;
+            moved = MUTANT != BENCH_ONE_ROUND;
+            z33_ran ran = seat_run(c, k, turn_budget(s, left));
+            if (ran.refusal != 0) {
+                return (z33_benched){ran.refusal, ran.place, k + 1, 0};
+            }
+            s->used += MUTANT == BENCH_USED_NOT_ADDED && ran.stop != 0 ? 0 : ran.steps;
+            s->stop = (uint32_t)ran.stop;
+            uint64_t taken = ran.steps + (MUTANT == BENCH_STOP_COSTS && ran.stop != 0);
+            left = taken < left ? left - taken : 0;
+            if (MUTANT == BENCH_ALL_STOP && ran.stop != 0) {
+                return (z33_benched){0, 0, 0, left};
+            }
+        }
+    }
+    for (uint64_t k = 0; k < c->seats; k++) {
+        if (MUTANT == BENCH_USED_REPLACED) c->list[k].used -= began[k];
+        if (MUTANT == BENCH_STOP_LOST) c->list[k].stop = 0;
+    }
+    answer.left = MUTANT == BENCH_LEFT_SPENT ? total - left : left;
+    return answer;
+}
+
+z33_benched z33_bench(z33_seat *list, size_t list_len, int64_t *cells, size_t cells_len, uint8_t *queues, size_t queues_len,
+                      uint8_t *outputs, size_t outputs_len, int64_t *rows, size_t rows_len, uint64_t seats, uint64_t total) {
+    if (MUTANT < BENCH_TURN_101 || MUTANT > BENCH_USED_AT_REFUSAL) {
+        return whole_z33_bench(list, list_len, cells, cells_len, queues, queues_len, outputs, outputs_len, rows, rows_len, seats, total);
+    }
+    if (MUTANT == BENCH_CUT_SEATS) seats = (uint32_t)seats;
+    if (MUTANT == BENCH_CUT_TOTAL) total = (uint32_t)total;
+    class_of c = {list, cells, rows, queues, outputs, list_len, cells_len, queues_len, outputs_len, rows_len, seats};
+    return bench_otherwise(&c, total);
+}
+
+z33_seat z33_take_over(uint32_t limit, uint32_t used, uint32_t stop) {
+    if (MUTANT == TAKE_OVER_SIGNED) {
+        return (z33_seat){(uint64_t)(int64_t)(int32_t)limit, (uint64_t)(int64_t)(int32_t)used, stop};
+    }
+    if (MUTANT == TAKE_OVER_SWAPPED) {
+        return whole_z33_take_over(used, limit, stop);
+    }
+    return whole_z33_take_over(limit, used, MUTANT == TAKE_OVER_STOP_LOST ? 0 : stop);
 }

@@ -84,6 +84,12 @@ IS(Z33_REFUSAL_LABEL, 14);
 IS(Z33_REFUSAL_VALUE, 15);
 IS(Z33_REFUSAL_EMPTY_CELL, 16);
 IS(Z33_REFUSAL_TEXT_ROOM, 17);
+IS(Z33_REFUSAL_SEATS, 19);
+
+/* "1 to 16 seats", "the least of 100, [...]" */
+IS(Z33_SEATS_LEAST, 1);
+IS(Z33_SEATS_MOST, 16);
+IS(Z33_TURN_MOST, 100);
 
 /* The answers: numbers of 64 bits one behind the other. */
 IS(sizeof(z33_done), 2 * 8);
@@ -92,6 +98,7 @@ IS(sizeof(z33_drained), 3 * 8);
 IS(sizeof(z33_counted), 3 * 8);
 IS(sizeof(z33_cell), 5 * 8);
 IS(sizeof(z33_raised), 4 * 8);
+IS(sizeof(z33_benched), 4 * 8);
 IS(offsetof(z33_ran, stop), 2 * 8);
 IS(offsetof(z33_ran, detail), 3 * 8);
 IS(offsetof(z33_ran, steps), 4 * 8);
@@ -102,5 +109,12 @@ IS(offsetof(z33_cell, tag), 2 * 8);
 IS(offsetof(z33_cell, second), 4 * 8);
 IS(offsetof(z33_raised, stop), 2 * 8);
 IS(offsetof(z33_raised, detail), 3 * 8);
+IS(offsetof(z33_benched, seat), 2 * 8);
+IS(offsetof(z33_benched, left), 3 * 8);
+
+/* A record of a bench list: two numbers of 64 bits, one of 32 and as much room behind it. */
+IS(sizeof(z33_seat), 3 * 8);
+IS(offsetof(z33_seat, used), 8);
+IS(offsetof(z33_seat, stop), 2 * 8);
 
 #include "definition.h"

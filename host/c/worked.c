@@ -1,4 +1,4 @@
-/* Document 01's worked run from C, the other calls, the fence, the timer, and buffers of length 0 that come as null pointers.
+/* Document 01's worked run from C, the other calls, the fence, the timer, a bench, and buffers of length 0 that come as null pointers.
  * Prints the runner's eight lines; worked.txt holds what they must be. */
 #include <inttypes.h>
 #include <stdio.h>
@@ -139,6 +139,31 @@ static void as_text(void) {
     due(z33_list(NULL, 0, NULL, 0, 0).refusal == 0, "nothing listed into nothing");
 }
 
+/* Two seats, one that loops and one that stops at once; then a cell of the second that is damaged. */
+static void bench(void) {
+    enum { SEATS = 2, PART = Z33_CELL_LENGTH * Z33_CELLS_LEAST };
+    static const int64_t jump[] = {6452, 0, 0}, reset[] = {20702, 0, 0};
+    static int64_t parts[SEATS * PART], rows[SEATS * ROW];
+    static uint8_t queues[SEATS * Z33_QUEUE_LEAST];
+    z33_seat list[SEATS] = {{250, 0, 0}, z33_take_over(1000, 7, 0)};
+    for (int i = 0; i < SEATS; i++) {
+        is_done(z33_fresh(parts + i * PART, PART, rows + i * ROW, ROW), "a seat was refused");
+        is_done(z33_load(parts + i * PART, PART, i == 0 ? jump : reset, 3, 0), "a seat's program was refused");
+    }
+    z33_benched benched = z33_bench(list, SEATS, parts, SEATS * PART, queues, sizeof queues, NULL, 0, rows, SEATS * ROW, SEATS, 120);
+    due(benched.refusal == 0 && benched.place == 0 && benched.seat == 0 && benched.left == 0, "a total of 120 was not spent");
+    due(list[0].limit == 250 && list[0].used == 120 && list[0].stop == Z33_STOP_BUDGET_SPENT, "the first seat has not two turns, of 100 and 20");
+    due(list[1].limit == 1000 && list[1].used == 7 && list[1].stop == Z33_STOP_RESET, "the second seat has not stopped by reset");
+    due(rows[Z33_ROW_CYCLES] == 120 && rows[ROW + Z33_ROW_CYCLES] == 0, "the rows are not those of 120 steps and of none");
+    benched = z33_bench(list, SEATS, parts, SEATS * PART, queues, sizeof queues, NULL, 0, rows, SEATS * ROW, SEATS, 1000);
+    due(benched.refusal == 0 && benched.left == 870 && list[0].used == 250, "the first seat has not come to its limit");
+    parts[PART + 3 * 9] = -1;
+    benched = z33_bench(list, SEATS, parts, SEATS * PART, queues, sizeof queues, NULL, 0, rows, SEATS * ROW, SEATS, 0);
+    due(benched.refusal == Z33_REFUSAL_DAMAGED_CELL && benched.place == 9 && benched.seat == 2 && benched.left == 0, "a damaged cell of seat 2");
+    benched = z33_bench(list, SEATS, parts, SEATS * PART, queues, 1, NULL, 0, rows, SEATS * ROW, SEATS, 0);
+    due(benched.refusal == Z33_REFUSAL_SEATS && benched.place == 0 && benched.seat == 0, "one byte for two queues");
+}
+
 static void null_is_refused(void) {
     due(z33_fresh(NULL, 0, NULL, 0).refusal == Z33_REFUSAL_CELLS, "fresh without cells");
     due(z33_fresh(cells, NUMBERS, NULL, 0).refusal == Z33_REFUSAL_ROW, "fresh without a row");
@@ -154,6 +179,9 @@ static void null_is_refused(void) {
     due(z33_set_register(NULL, 0, 0, 0).refusal == Z33_REFUSAL_ROW, "set register without a row");
     due(z33_raise(NULL, 0, NULL, 0, 0).refusal == Z33_REFUSAL_CELLS, "raise without cells");
     due(z33_raise(cells, NUMBERS, NULL, 0, 0).refusal == Z33_REFUSAL_ROW, "raise without a row");
+    due(z33_bench(NULL, 0, NULL, 0, NULL, 0, NULL, 0, NULL, 0, 0, 1).refusal == Z33_REFUSAL_SEATS, "a bench without seats");
+    z33_seat seat = {1, 0, 0};
+    due(z33_bench(&seat, 1, NULL, 0, NULL, 0, NULL, 0, NULL, 0, 1, 1).refusal == Z33_REFUSAL_CELLS, "a seat without anything");
 }
 
 /* An output record, a drain buffer, an image and bytes to deliver may be empty. */
@@ -173,6 +201,7 @@ int main(void) {
     fence();
     timer();
     as_text();
+    bench();
     null_is_refused();
     null_is_taken();
     return 0;

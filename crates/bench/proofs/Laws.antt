@@ -134,13 +134,13 @@ turn-reached t x = go (takesTurn t x) refl
     go true h = record { turns = also (budget-least t x h) (budget-most (x .seat) t) none; machine = refl; used = omega arith; stop = refl; limit = refl }
     go false h = stays x
 
-round-reached : (i t : ℕ) (xs : List Seated) → Reached (seatAt i xs) (budgetsInRound i t xs) (seatAt i (round t xs .seats))
+pub round-reached : (i t : ℕ) (xs : List Seated) → Reached (seatAt i xs) (budgetsInRound i t xs) (seatAt i (round t xs .seats))
 unfolding budgetsInRound round
 round-reached i t [] = stays (seatAt i [])
 round-reached zero t (x ∷ xs) = turn-reached t x
 round-reached (suc i) t (x ∷ xs) = round-reached i (t - taken t x) xs
 
-rounds-reached : (n i : ℕ) (b : Bench) → Reached (seatAt i (b .seats)) (budgetsIn n i b) (seatAt i (rounds n b .seats))
+pub rounds-reached : (n i : ℕ) (b : Bench) → Reached (seatAt i (b .seats)) (budgetsIn n i b) (seatAt i (rounds n b .seats))
 unfolding budgetsIn rounds
 rounds-reached zero i b = stays (seatAt i (b .seats))
 rounds-reached (suc n) i b =
@@ -210,7 +210,7 @@ module _ (t : ℕ) (x : Seated) (a : Accepted (x .machine)) where
   waited = let u = turned-used in let m = taken-most in record { no-less = omega arith; at-most = omega arith }
 
   -- what falls
-  can-then : canGoOn seatAfter ≡ true → turn t x .answer .steps ≡ turnBudget (x .seat) t
+  pub can-then : canGoOn seatAfter ≡ true → turn t x .answer .steps ≡ turnBudget (x .seat) t
   unfolding canGoOn
   can-then c = turn-spent (eqb-true (turn t x .answer .stop) 0 (and-left _ (ltb (x .seat .used + turn t x .answer .steps) (x .seat .limit)) c))
 

@@ -539,6 +539,10 @@ module _ (n t : ℕ) (list : List Seat) (b : Lent) where
   at-turn-variant list' b' c (taken-up g) h = refl
   at-turn-variant list' b' c (refused r) h = absurd (true≢false (sym h ∙ r .halted))
 
+  pub taken-up-variant : (list' : List Seat) (b' : Lent) (c : Clock) (g : Going n t list b list' b' c) → variant list' b' c (taken-up g) ≡ falls n t list b list' b' c g
+  unfolding variant
+  taken-up-variant list' b' c g = refl
+
   pub at-end : (list' : List Seat) (b' : Lent) (c : Clock) → Inv list' b' c → c .runs ≡ false → called (answer c) (list', b') ≡ benchCall n t list b
   at-end list' b' c (taken-up g) h = ended n t list b list' b' c g h
   at-end list' b' c (refused r) h = r .is-call

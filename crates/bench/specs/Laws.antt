@@ -2,11 +2,11 @@
 use mathlib.Core.Path.{_≡_}
 use mathlib.Core.Logic.{_≢_}
 use mathlib.Core.Bool.{Bool, true, false, cond}
-use mathlib.Core.List.{List, [], _∷_, _++_}
+use mathlib.Core.List.{List, [], _∷_, _++_, foldr}
 use Prim.Native.Nat.{ℕ, zero, suc, _+_, _-_, _<_, _≤_}
 use lib.ListN.{length, getD}
 use Rattle.definition.specs.declared.Ran.{Ran}
-use Rattle.definition.specs.Calls.{Lent, lent, lentSupervisor, Called, calls, answers}
+use Rattle.definition.specs.Calls.{Lent, lent, lentSupervisor, Called, runCall, calls, answers}
 use Rattle.definition.specs.UserMode.{Accepted, Alike, GoesNoFurther, Whole}
 use Rattle.bench.specs.declared.Seat.{Seat}
 use Rattle.bench.specs.Seat.{noSeat, canGoOn, turnBudget}
@@ -128,6 +128,19 @@ pub record Reached (x : Seated) (ns : List ℕ) (y : Seated) : Type 0 where
 
 abbrev pub ByItself : Type 0
 ByItself = (b : Bench) (i : ℕ) → Reached (seatAt i (b .seats)) (turnBudgets i b) (seatAt i (finished b .seats))
+
+-- The seat y is x after one run on this budget.
+pub record ReachedAtOnce (x : Seated) (n : ℕ) (y : Seated) : Type 0 where
+  pub machine : y .machine ≡ runCall n (x .machine) .left
+  pub used : y .seat .used ≡ x .seat .used + runCall n (x .machine) .answer .steps
+  pub stop : y .seat .stop ≡ runCall n (x .machine) .answer .stop
+  -- A call can be given it: no more than the limit's rest.
+  pub fits : n ≤ x .seat .limit - x .seat .used
+
+-- With "Budgets that add" (Card 12) a seat that had turns is where one run on their sum would bring it.
+abbrev pub InOneRun : Type 0
+InOneRun =
+    (b : Bench) → AllAccepted (b .seats) → (i n : ℕ) (ns : List ℕ) → turnBudgets i b ≡ n ∷ ns → ReachedAtOnce (seatAt i (b .seats)) (n + foldr _+_ 0 ns) (seatAt i (finished b .seats))
 
 -- "so the third demand holds seat by seat": of a seat of each of two benches, or of one, that had the same turn budgets.
 module _ (b₁ b₂ : Bench) (i₁ i₂ : ℕ) where

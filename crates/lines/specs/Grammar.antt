@@ -1,4 +1,4 @@
--- The lines of the runner's input (document 01, "The runner"), written without the reader. A text is a list of bytes: 44 is a comma, 45 a
+-- The numeric lines that the runner took (document 01, "The runner"), written without the reader. A text is a list of bytes: 44 is a comma, 45 a
 -- minus, 10 a line end.
 use mathlib.Core.Path.{_≡_}
 use mathlib.Core.Bool.{true}

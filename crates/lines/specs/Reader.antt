@@ -1,4 +1,4 @@
--- The reader of the runner's lines, as a fold over the bytes of the text.
+-- The reader of numeric lines, as a fold over the bytes of the text.
 use mathlib.Core.Bool.{true, false, cond, _&&_, _||_}
 use mathlib.Core.List.{List, [], _∷_, _++_, foldl}
 use Prim.Native.Nat.{ℕ, _+_, _*_, _-_}

@@ -1,4 +1,5 @@
-// The runner's lines, read byte by byte: a text comes in parts of any size and takes no more memory than the reader and the cells.
+// Lines of four decimal numbers, which the runner took before, read byte by byte: a text comes in parts of any size and takes no more
+// memory than the reader and the cells.
 pub mod line;
 pub mod part;
 

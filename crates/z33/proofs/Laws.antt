@@ -1,61 +1,24 @@
--- run and raise on what they are lent.
+-- What run answers where it is refused, and raise on what it is lent.
 use mathlib.Core.Path.{_≡_, refl, sym, ap, _∙_, subst}
-use mathlib.Core.Bool.{Bool, true, false, cond, true≢false}
+use mathlib.Core.Bool.{Bool, true, false, cond}
 use mathlib.Core.List.{List, []}
-use Prim.Native.Nat.{ℕ, suc, _+_, _<_, _≤_}
+use Prim.Native.Nat.{ℕ, _<_}
 use native.Mathlib.Omega.{arith}
-use lib.IntN.{ℤ, pos}
+use lib.IntN.{ℤ}
 use lib.Dec.{ltb}
 use borrow.Author.Tests.{ltb-true}
 use Rattle.definition.specs.declared.Ran.{Ran}
 use Rattle.definition.specs.declared.Raised.{Raised}
 use Rattle.definition.specs.Constants.{CYCLES-END}
 use Rattle.definition.specs.Exec.{core}
-use Rattle.definition.specs.Io.{Console}
 use Rattle.definition.specs.Runtime as M
-use Rattle.definition.specs.Runtime.{Machine, machine, Run}
-use Rattle.definition.specs.Calls.{machineOf, rowOf, Called, called, passes, Lent, lent, lentMachine, lentOf, runCheck, ran, runRefused, runCall, raiseCheck, quietMachine, raised, raise}
-use Rattle.definition.specs.Accepted.{AcceptedMachine}
-use Rattle.definition.proofs.Row.{accepted-machine}
-use Rattle.definition.proofs.Accepted.{call-is, run-ends}
-use Rattle.console.specs.declared.ConsoleState.{ConsoleState}
+use Rattle.definition.specs.Runtime.{Machine, machine}
+use Rattle.definition.specs.Calls.{machineOf, rowOf, called, passes, Lent, lentMachine, runCheck, ran, runRefused, runCall, raiseCheck, quietMachine, raised, raise}
 use Rattle.console.specs.Meaning.{consoleOf}
 use Rattle.runtime.specs.declared.State.{State}
 use Rattle.runtime.specs.declared.Stepped.{Stepped}
 use Rattle.runtime.specs.Meaning.{machineAt, outcomeAt, steppedOf}
-use Rattle.computer.specs.declared.Ended.{Ended}
-use Rattle.computer.specs.Meaning.{endedOf}
-use Rattle.z33.specs.Meaning.{rowState}
-
--- the row written anew looks at no list
-pub row-at : (l : List ℤ) (q o : List ℕ) (m : State) → rowOf (machine (core [] (m .s)) (m .cycles) (consoleOf (m .k) [] []) (m .fence) (m .timer)) ≡ rowOf (machineAt l q o m)
-unfolding rowOf
-row-at l q o m = refl
-
-pub state-is : (l : List ℤ) (q o : List ℕ) (row : List ℤ) → machineAt l q o (rowState row) ≡ machineOf l q o row
-unfolding machineOf
-state-is l q o row = refl
-
--- ---- run
-
--- the budget that a run was given is the one that is asked about
-pub on-budget : (n : ℕ) (m : Machine) {r : Run} → r ≡ M.run n m → (b : ℕ) → n ≡ b → r ≡ M.run b m
-on-budget n m f b e = f ∙ ap (λ (k : ℕ). M.run k m) e
-
-module _ (l : List ℤ) (q o : List ℕ) (row : List ℤ) (h : passes (runCheck (lent l q o row)) ≡ true) where
-  pub run-accepted : AcceptedMachine (machineAt l q o (rowState row))
-  run-accepted = subst AcceptedMachine (sym (state-is l q o row)) (accepted-machine (lent l q o row) h)
-
-  module _ (b : ℕ) (l' : List ℤ) (o' : List ℕ) (e : Ended) (f : endedOf l' q o' e ≡ M.run b (machineAt l q o (rowState row))) where
-    pub left-accepted : AcceptedMachine (machineAt l' q o' (e .m))
-    left-accepted = subst (λ (r : Run). AcceptedMachine (r .left)) (sym f) (run-ends b (machineAt l q o (rowState row)) run-accepted .left-in)
-
-    pub run-answer : (row' : List ℤ) → row' ≡ rowOf (machine (core [] (e .m .s)) (e .m .cycles) (consoleOf (e .m .k) [] []) (e .m .fence) (e .m .timer)) → called (record { refusal = 0; place = 0; stop = e .stop; detail = e .detail; steps = e .steps; empty = e .empty }) (lent l' q o' row') ≡ runCall b (lent l q o row)
-    unfolding ran
-    run-answer row' g =
-        ap (λ (x : List ℤ). called (record { refusal = 0; place = 0; stop = e .stop; detail = e .detail; steps = e .steps; empty = e .empty }) (lent l' q o' x)) (g ∙ row-at l' q o' (e .m))
-        ∙ ap ran (f ∙ ap (M.run b) (state-is l q o row))
-        ∙ sym (call-is b (lent l q o row) h)
+use Rattle.machine.specs.Meaning.{rowState}
 
 pub run-refused : (b : ℕ) (l : Lent) → passes (runCheck l) ≡ false → called (record { refusal = runCheck l .refusal; place = runCheck l .place; stop = 0; detail = 0; steps = 0; empty = 0 }) l ≡ runCall b l
 unfolding runCall runRefused

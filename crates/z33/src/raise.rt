@@ -10,7 +10,7 @@ pub extern "C" fn z33_raise(cells: &mut [i64], row: &mut [i64], code: u64) -> Ra
 {
     let d = refusals::raise_check(cells, row, code);
     if d.refusal == 0 {
-        let m = super::state(row);
+        let m = machine::state(row);
         let x = runtime::raise::raise(cells, m, code as u32);
         if x.completed {
             let after = x.m;

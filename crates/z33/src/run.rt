@@ -3,20 +3,6 @@ use definition::Ran;
 ghost use mathlib.Core.Path.{_≡_};
 ghost use Rattle.definition.specs.Calls.{called, lent, runCall};
 
-// The answer of a run that was taken.
-fn ran(stop: u32, detail: u32, steps: u64, empty: u64) -> Ran
-    ensures { λ r. ⌜ r ≡ record { refusal = 0; place = 0; stop = stop; detail = detail; steps = steps; empty = empty } ⌝ }
-{
-    Ran {
-        refusal: 0,
-        place: 0,
-        stop: stop as u64,
-        detail: detail as u64,
-        steps,
-        empty,
-    }
-}
-
 // The acceptance tests are made once a call; the run works under what they established.
 #[no_mangle]
 pub extern "C" fn z33_run(
@@ -30,14 +16,7 @@ pub extern "C" fn z33_run(
 {
     let d = refusals::run_check(cells, queue, output, row);
     if d.refusal == 0 {
-        let m = super::state(row);
-        let e = computer::run(cells, queue, output, m, budget);
-        let after = e.m;
-        let s = after.s;
-        let k = after.k;
-        let timer = after.timer;
-        row::write_row(row, s, after.cycles, k, after.fence, timer);
-        return ran(e.stop, e.detail, e.steps, e.empty);
+        return machine::run(cells, queue, output, row, budget);
     }
     Ran {
         refusal: d.refusal,

@@ -1,7 +1,9 @@
 //! bench [STEPS [ROUNDS]]: the unchanged original, the plain interpreter and the proved library on the same loops, in one
 //! process and in turn; CPU time of the thread, best and median, and the library's ratio to the others.
-//! bench alone MACHINE LOOP STEPS: one of the three on one loop and nothing else, for whoever counts instructions.
+//! Then sixteen machines on a bench against single runs of the same steps.
+//! bench alone MACHINE LOOP STEPS: one of the three, `class` or `singles` on one loop and nothing else, for whoever counts instructions.
 
+mod class;
 mod clock;
 mod programs;
 
@@ -109,13 +111,19 @@ fn exercise(cells: usize, rounds: usize) {
 }
 
 fn alone(machine: &str, name: &str, steps: u64) {
-    let (_, run) = MACHINES.iter().find(|m| m.0 == machine).expect("original, plain or library");
     let programs = programs::all();
     let program = programs
         .iter()
         .find(|p| p.name.split(' ').next() == Some(name))
         .expect("a loop: a, a', b, c, d or e");
-    run(program, steps);
+    match machine {
+        "class" => drop(class::bench(program, steps)),
+        "singles" => drop(class::singles(program, steps)),
+        _ => {
+            let (_, run) = MACHINES.iter().find(|m| m.0 == machine).expect("original, plain, library, class or singles");
+            run(program, steps);
+        }
+    }
 }
 
 fn measure(steps: u64, rounds: usize) {
@@ -124,6 +132,8 @@ fn measure(steps: u64, rounds: usize) {
     println!("{:34} {:13}   {:13}   {:13}   original, plain", "", "", "", "");
     let programs = programs::all();
     programs.iter().for_each(|program| compare(program, steps, rounds));
+    println!("{:34} {:13}   {:13}   the bench takes longer by", "sixteen seats", "bench", "single runs");
+    programs.iter().for_each(|program| class::compare(program, steps, rounds));
     for kind in &programs::kinds() {
         acceptance(kind, 0);
         acceptance(kind, 1);

@@ -25,12 +25,18 @@ pub fn draw(rng: &mut Rng, call: Call) -> Trial {
 
 /// With so many cells.
 pub fn draw_with(rng: &mut Rng, call: Call, cells: usize) -> Trial {
+    let (queue, output) = (queue_length(rng), output_length(rng));
+    draw_sized(rng, call, cells, queue, output)
+}
+
+/// With so many cells, and so many bytes where the call is lent them.
+pub fn draw_sized(rng: &mut Rng, call: Call, cells: usize, queue: usize, output: usize) -> Trial {
     let mut trial = Trial { call, number: 0, word: 0, lent: Lent::default(), null: rng.once_in(2) };
     if call.is_lent(Buffer::Queue) {
-        trial.lent.queue = bytes(rng, &[1, 1, 2, 3, 7, 16], &[QUEUE_MOST - 1, QUEUE_MOST]);
+        trial.lent.queue = some_bytes(rng, queue);
     }
     if call.is_lent(Buffer::Output) {
-        trial.lent.output = bytes(rng, &[0, 0, 1, 2, 5, 64], &[OUTPUT_MOST - 1, OUTPUT_MOST]);
+        trial.lent.output = some_bytes(rng, output);
     }
     if call.is_lent(Buffer::Row) {
         draw_row(rng, &mut trial, cells);
@@ -42,9 +48,16 @@ pub fn draw_with(rng: &mut Rng, call: Call, cells: usize) -> Trial {
     trial
 }
 
-fn bytes(rng: &mut Rng, lengths: &[usize], longest: &[usize]) -> Vec<u8> {
-    let length = if rng.once_in(LONGEST_ONCE_IN) { rng.pick(longest) } else { rng.pick(lengths) };
-    some_bytes(rng, length)
+pub fn queue_length(rng: &mut Rng) -> usize {
+    length(rng, &[1, 1, 2, 3, 7, 16], &[QUEUE_MOST - 1, QUEUE_MOST])
+}
+
+pub fn output_length(rng: &mut Rng) -> usize {
+    length(rng, &[0, 0, 1, 2, 5, 64], &[OUTPUT_MOST - 1, OUTPUT_MOST])
+}
+
+fn length(rng: &mut Rng, lengths: &[usize], longest: &[usize]) -> usize {
+    if rng.once_in(LONGEST_ONCE_IN) { rng.pick(longest) } else { rng.pick(lengths) }
 }
 
 fn some_bytes(rng: &mut Rng, length: usize) -> Vec<u8> {

@@ -9,7 +9,7 @@ use crate::asked::Asked;
 use crate::coverage::{Coverage, all_pairs};
 use crate::faults::{self, Fault};
 use crate::trial::{CALLS, Call, Trial};
-use crate::{accepted, anything, cuts, damaged, exercise, huge, tags};
+use crate::{accepted, anything, bench, cuts, damaged, exercise, huge, tags};
 
 /// How often each fault, and each pair of faults, is put into another accepted trial.
 const EACH_FAULT: usize = 6;
@@ -37,7 +37,8 @@ pub fn check(seed: u64) -> Result<Vec<String>, String> {
     let tags = tags::check()?;
     let huge = huge::check()?;
     let exercise = exercise::check(seed)?;
-    Ok(vec![
+    let benches = bench::check(seed)?;
+    let mut lines = vec![
         check.coverage.complete()?,
         format!("{tags} cells, each read, loaded and in register a: sound or refused as document 01 has it"),
         format!(
@@ -47,7 +48,9 @@ pub fn check(seed: u64) -> Result<Vec<String>, String> {
         cuts,
         huge,
         exercise,
-    ])
+    ];
+    lines.extend(benches);
+    Ok(lines)
 }
 
 struct Check {

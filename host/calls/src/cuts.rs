@@ -90,16 +90,22 @@ fn draw(rng: &mut Rng) -> Trial {
 
 fn draw_loop(rng: &mut Rng) -> Trial {
     let mut trial = accepted::draw(rng, Call::Run);
+    put_loop(rng, &mut trial);
+    trial
+}
+
+/// Puts a loop into a machine that a run accepts.
+pub fn put_loop(rng: &mut Rng, trial: &mut Trial) {
     for address in CODE..CODE + LENGTH {
         let line = instruction_of(rng);
-        put(&mut trial, address, line);
+        put(trial, address, line);
     }
-    put(&mut trial, CODE + LENGTH, instruction(JMP, imm(CODE as i64), NONE));
+    put(trial, CODE + LENGTH, instruction(JMP, imm(CODE as i64), NONE));
     let handler = INTERRUPT_HANDLER as usize;
     for (address, line) in
         [(handler, instruction(NOP, NONE, NONE)), (handler + 1, instruction(RTI, NONE, NONE))]
     {
-        put(&mut trial, address, line);
+        put(trial, address, line);
     }
     let numbers = &mut trial.lent.row;
     row::put_cell(numbers, at::A, word_or_empty(rng));
@@ -107,9 +113,8 @@ fn draw_loop(rng: &mut Rng) -> Trial {
     numbers[at::PC] = CODE as i64;
     numbers[at::SR] = rng.pick(&[0, SUPERVISOR, INTERRUPT_ENABLE, SUPERVISOR | INTERRUPT_ENABLE]);
     if rng.once_in(8) {
-        set_i_and_trap(&mut trial);
+        set_i_and_trap(trial);
     }
-    trial
 }
 
 /// The first step sets I beside the pending mark and then, as its new address is outside, enters code 5, so that it does not poll: a run

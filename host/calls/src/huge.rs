@@ -7,6 +7,7 @@ use std::slice;
 
 use layout::limit::CELLS_LEAST;
 use layout::{ROW, at, cell};
+use z33::Seat;
 
 const PAST: usize = 1 << 32;
 
@@ -40,6 +41,11 @@ impl Zeros {
         unsafe { slice::from_raw_parts_mut(self.at.cast(), length) }
     }
 
+    fn records(&mut self, length: usize) -> &mut [Seat] {
+        assert!(size_of::<Seat>() * length <= self.size);
+        unsafe { slice::from_raw_parts_mut(self.at.cast(), length) }
+    }
+
     fn bytes(&mut self, length: usize) -> &mut [u8] {
         assert!(length <= self.size);
         unsafe { slice::from_raw_parts_mut(self.at.cast(), length) }
@@ -60,6 +66,7 @@ pub fn check() -> Result<String, String> {
         return Ok("lengths past 32 bits: not tried, the address space is too small".into());
     };
     let mut answers = refused(&mut zeros);
+    answers.extend(benches(&mut zeros));
     answers.push(("drain, buffer", drained(&mut writable), (0, 0)));
     let count = answers.len();
     match answers.into_iter().find(|(_, answer, due)| answer != due) {
@@ -101,6 +108,25 @@ fn refused(zeros: &mut Zeros) -> Vec<Looked> {
         ("raise, row", raised(z33::raise(&mut *cells, zeros.numbers(PAST + ROW), 0)), (4, 0)),
         // 2^32 is no multiple of 3: only the length's low 32 bits would be whole cells
         ("exercise, image", counted(z33::exercise(zeros.numbers(PAST + cell::LENGTH), 0)), (9, 0)),
+    ]
+}
+
+/// A bench of one seat, for which every length is divisible.
+fn benches(zeros: &mut Zeros) -> Vec<Looked> {
+    let (mut cells, mut row) = (vec![0; cell::LENGTH * CELLS_LEAST], [0; ROW]);
+    let (cells, row) = (&mut cells[..], &mut row[..]);
+    let (mut queue, mut list) = ([0; 4], [Seat::default()]);
+    let (queue, list) = (&mut queue[..], &mut list[..]);
+    let benched = |answer: z33::Benched| (answer.refusal, answer.place);
+    let one = |list: &mut [Seat], cells: &mut [i64], queue: &mut [u8], output: &mut [u8], row: &mut [i64]| {
+        benched(z33::bench(list, cells, queue, output, row, 1, 1))
+    };
+    vec![
+        ("bench, list", one(zeros.records(PAST + 1), cells, queue, &mut [], row), (19, 0)),
+        ("bench, cells", one(list, zeros.numbers(CELLS), queue, &mut [], row), (1, 0)),
+        ("bench, queues", one(list, cells, zeros.bytes(PAST + 4), &mut [], row), (2, 0)),
+        ("bench, outputs", one(list, cells, queue, zeros.bytes(PAST + 4), row), (3, 0)),
+        ("bench, rows", one(list, cells, queue, &mut [], zeros.numbers(PAST + ROW)), (4, 0)),
     ]
 }
 

@@ -4,6 +4,7 @@
 mod accepted;
 mod anything;
 mod asked;
+mod bench;
 mod check;
 mod coverage;
 mod cuts;

@@ -23,13 +23,7 @@ fn tested(trial: &Trial, lent: &Lent) -> Tested {
             test::cells(lent.cells.len())?;
             test::row_length(lent.row.len())
         }
-        Call::Run => {
-            test::cells(lent.cells.len())?;
-            test::queue(lent.queue.len())?;
-            test::output(lent.output.len())?;
-            row(trial.call, lent)?;
-            test::every_cell(&lent.cells)
-        }
+        Call::Run => run_tested(&lent.cells, &lent.queue, &lent.output, &lent.row),
         Call::Deliver => {
             test::queue(lent.queue.len())?;
             row(trial.call, lent)?;
@@ -61,6 +55,15 @@ fn tested(trial: &Trial, lent: &Lent) -> Tested {
             test::code(number)
         }
     }
+}
+
+/// What run is lent; of a bench, a seat's part of it.
+pub fn run_tested(cells: &[i64], queue: &[u8], output: &[u8], row: &[i64]) -> Tested {
+    test::cells(cells.len())?;
+    test::queue(queue.len())?;
+    test::output(output.len())?;
+    test::row(row, queue.len(), output.len(), cells.len() / cell::LENGTH)?;
+    test::every_cell(cells)
 }
 
 /// "Where a call isn't lent that buffer, the lengths are read as 4,096 and 65,536, and a count of cells as 10,000".

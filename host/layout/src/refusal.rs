@@ -20,6 +20,8 @@ pub const LABEL: u64 = 14;
 pub const VALUE: u64 = 15;
 pub const EMPTY_CELL: u64 = 16;
 pub const TEXT_ROOM: u64 = 17;
+/// The bench's, before 1.
+pub const SEATS: u64 = 19;
 /// The runner's, and of old files the listings tool's. Place: the line.
 pub const LINE: u64 = 12;
 /// The runner's. Place: the line.

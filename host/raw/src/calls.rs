@@ -6,7 +6,7 @@ use std::ptr::{null, null_mut};
 
 use z33_sys as c;
 
-use crate::{Cell, Counted, Done, Drained, Raised, Ran};
+use crate::{Benched, Cell, Counted, Done, Drained, Raised, Ran, Seat};
 
 pub fn fresh<'a>(cells: impl Into<Option<&'a mut [i64]>>, row: impl Into<Option<&'a mut [i64]>>) -> Done {
     let ((cells, cells_len), (row, row_len)) = (lend(cells), lend(row));
@@ -86,6 +86,28 @@ pub fn list<'a>(image: impl Into<Option<&'a [i64]>>, text: impl Into<Option<&'a 
 pub fn exercise<'a>(image: impl Into<Option<&'a mut [i64]>>, seed: u64) -> Counted {
     let (image, image_len) = lend(image);
     unsafe { c::z33_exercise(image, image_len, seed) }
+}
+
+pub fn bench<'a>(
+    list: impl Into<Option<&'a mut [Seat]>>,
+    cells: impl Into<Option<&'a mut [i64]>>,
+    queues: impl Into<Option<&'a mut [u8]>>,
+    outputs: impl Into<Option<&'a mut [u8]>>,
+    rows: impl Into<Option<&'a mut [i64]>>,
+    seats: u64,
+    total: u64,
+) -> Benched {
+    let ((list, list_len), (cells, cells_len)) = (lend(list), lend(cells));
+    let ((queues, queues_len), (outputs, outputs_len), (rows, rows_len)) = (lend(queues), lend(outputs), lend(rows));
+    unsafe {
+        c::z33_bench(
+            list, list_len, cells, cells_len, queues, queues_len, outputs, outputs_len, rows, rows_len, seats, total,
+        )
+    }
+}
+
+pub fn take_over(limit: u32, used: u32, stop: u32) -> Seat {
+    unsafe { c::z33_take_over(limit, used, stop) }
 }
 
 /// Pointer and length of what is lent to be changed.

@@ -1,4 +1,5 @@
-//! The structs of include/z33.h. `refusal` is 0 where the call was done; where it was refused, `place` says where and every other field is 0.
+//! The structs of include/z33.h. `refusal` is 0 where the call was done; where it was refused, `place` says where and every other field is 0,
+//! but for the seat of a refused bench.
 
 #![allow(non_camel_case_types, reason = "the names are the header's")]
 
@@ -84,7 +85,34 @@ pub struct z33_raised {
     pub detail: u64,
 }
 
+/// What a bench answers.
+#[repr(C)]
+#[derive(Clone, Copy, Debug, Default, PartialEq, Eq)]
+pub struct z33_benched {
+    /// 0, or the refusal's number.
+    pub refusal: u64,
+    /// Where in the seat's part what was refused is, or 0.
+    pub place: u64,
+    /// The seat, from 1, that was refused, or 0.
+    pub seat: u64,
+    /// What is left of the total.
+    pub left: u64,
+}
+
+/// A seat's record in a bench list.
+#[repr(C)]
+#[derive(Clone, Copy, Debug, Default, PartialEq, Eq)]
+pub struct z33_seat {
+    /// How many steps it may take in all.
+    pub limit: u64,
+    /// How many it has taken.
+    pub used: u64,
+    /// Why its last turn ended.
+    pub stop: u32,
+}
+
 const _: () = {
     assert!(size_of::<z33_done>() == 16 && size_of::<z33_ran>() == 48 && size_of::<z33_drained>() == 24);
     assert!(size_of::<z33_counted>() == 24 && size_of::<z33_cell>() == 40 && size_of::<z33_raised>() == 32);
+    assert!(size_of::<z33_benched>() == 32 && size_of::<z33_seat>() == 24);
 };

@@ -1,7 +1,7 @@
 //! The functions of include/z33.h, in its order. Each buffer is a pointer and a count of elements, and the pointer may be null where the
 //! count is 0; buffers of one call do not overlap.
 
-use crate::answers::{z33_cell, z33_counted, z33_done, z33_drained, z33_raised, z33_ran};
+use crate::answers::{z33_benched, z33_cell, z33_counted, z33_done, z33_drained, z33_raised, z33_ran, z33_seat};
 
 unsafe extern "C" {
     /// Makes all cells empty and the row 0, whatever they held.
@@ -78,4 +78,23 @@ unsafe extern "C" {
 
     /// Fills an image with sound instructions drawn from a seed.
     pub fn z33_exercise(image: *mut i64, image_len: usize, seed: u64) -> z33_counted;
+
+    /// Takes the turns of up to sixteen seats under one step total.
+    pub fn z33_bench(
+        list: *mut z33_seat,
+        list_len: usize,
+        cells: *mut i64,
+        cells_len: usize,
+        queues: *mut u8,
+        queues_len: usize,
+        outputs: *mut u8,
+        outputs_len: usize,
+        rows: *mut i64,
+        rows_len: usize,
+        seats: u64,
+        total: u64,
+    ) -> z33_benched;
+
+    /// The record of one that was stored in 32 bits.
+    pub fn z33_take_over(limit: u32, used: u32, stop: u32) -> z33_seat;
 }

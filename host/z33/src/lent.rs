@@ -1,4 +1,4 @@
-//! The eight calls over buffers that the caller owns: slices, or anything that lends one, as `&mut Vec` does.
+//! The calls over buffers that the caller owns: slices, or anything that lends one, as `&mut Vec` does.
 //!
 //! Cells are three numbers each (tag, first, second). The row is 20 numbers: a and b (three each), pc, sp, sr, cycles, the console's
 //! enable, flag and pending, queue start, queue count, output count, the fence, and the timer's interval, remaining and mark. Any length and
@@ -14,7 +14,7 @@
 
 use layout::stop;
 
-use crate::{Cell, Exception, Ran, Refusal, Register, Stop};
+use crate::{Cell, Exception, Ran, Refusal, Register, Seat, SeatRefusal, Stop};
 
 /// Makes all cells empty and the row 0, whatever they held.
 pub fn fresh(cells: &mut [i64], row: &mut [i64]) -> Result<(), Refusal> {
@@ -119,4 +119,37 @@ pub fn raise(cells: &mut [i64], row: &mut [i64], exception: Exception) -> Result
         stop::ENTERED => None,
         stop => Some(Stop::of(stop, raised.detail)),
     })
+}
+
+/// Takes the turns of a bench under one step total and tells what is left of it. Each buffer holds the parts of all seats, equally long, seat 1
+/// first; [`Bench`](crate::Bench) owns them.
+pub fn bench(
+    list: &mut [Seat],
+    cells: &mut [i64],
+    queues: &mut [u8],
+    outputs: &mut [u8],
+    rows: &mut [i64],
+    seats: u64,
+    total: u64,
+) -> Result<u64, SeatRefusal> {
+    let benched = unsafe {
+        z33_sys::z33_bench(
+            list.as_mut_ptr().cast(),
+            list.len(),
+            cells.as_mut_ptr(),
+            cells.len(),
+            queues.as_mut_ptr(),
+            queues.len(),
+            outputs.as_mut_ptr(),
+            outputs.len(),
+            rows.as_mut_ptr(),
+            rows.len(),
+            seats,
+            total,
+        )
+    };
+    match Refusal::check(benched.refusal, benched.place) {
+        Ok(()) => Ok(benched.left),
+        Err(refusal) => Err(SeatRefusal { refusal, seat: benched.seat }),
+    }
 }

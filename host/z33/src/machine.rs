@@ -20,10 +20,10 @@ const TOO_MANY: usize = limit::OUTPUT_MOST + 1;
 /// ```
 #[derive(Clone, Debug, PartialEq, Eq)]
 pub struct Machine {
-    cells: Vec<i64>,
-    queue: Vec<u8>,
-    output: Vec<u8>,
-    row: Row,
+    pub(crate) cells: Vec<i64>,
+    pub(crate) queue: Vec<u8>,
+    pub(crate) output: Vec<u8>,
+    pub(crate) row: Row,
 }
 
 impl Machine {

@@ -52,10 +52,12 @@ pub enum Refusal {
     EmptyCell,
     /// 17: the text buffer is too short.
     TextRoom,
+    /// 19: the seats are not 1 to 16, the list has not one record a seat, or a buffer has not as much for each seat.
+    Seats,
 }
 
 impl Refusal {
-    /// Its number, 1 to 11 or 13 to 17.
+    /// Its number, 1 to 11, 13 to 17 or 19.
     pub fn number(self) -> u64 {
         match self {
             Refusal::Cells => refusal::CELLS,
@@ -74,6 +76,17 @@ impl Refusal {
             Refusal::Value { .. } => refusal::VALUE,
             Refusal::EmptyCell => refusal::EMPTY_CELL,
             Refusal::TextRoom => refusal::TEXT_ROOM,
+            Refusal::Seats => refusal::SEATS,
+        }
+    }
+
+    /// The row's place, from 1, the cell's address or the line, or 0.
+    pub fn place(self) -> u64 {
+        match self {
+            Refusal::Row { place } => place,
+            Refusal::DamagedCell { address } => address,
+            Refusal::Text { line } | Refusal::Label { line } | Refusal::Value { line } => line,
+            _ => 0,
         }
     }
 
@@ -97,7 +110,8 @@ impl Refusal {
             refusal::VALUE => Refusal::Value { line: place },
             refusal::EMPTY_CELL => Refusal::EmptyCell,
             refusal::TEXT_ROOM => Refusal::TextRoom,
-            _ => unreachable!("the library is proved to refuse with 1 to 11 and 13 to 17, and refused with {number}"),
+            refusal::SEATS => Refusal::Seats,
+            _ => unreachable!("the library is proved to refuse with 1 to 11, 13 to 17 and 19, and refused with {number}"),
         })
     }
 }
@@ -124,8 +138,29 @@ impl fmt::Display for Refusal {
             Refusal::Value { line } => write!(f, "line {line} of the program has a value out of range"),
             Refusal::EmptyCell => write!(f, "the image has an empty cell, which the listing was not allowed"),
             Refusal::TextRoom => write!(f, "the buffer is shorter than the image's text"),
+            Refusal::Seats => write!(f, "the seats are not 1 to 16 with a record and equal parts for each"),
         }
     }
 }
 
 impl error::Error for Refusal {}
+
+/// Why a bench was refused, and which seat. Nothing has changed then.
+#[derive(Clone, Copy, Debug, PartialEq, Eq, Hash)]
+pub struct SeatRefusal {
+    /// The refusal; its place is within the seat's part.
+    pub refusal: Refusal,
+    /// The lowest such seat, from 1, or 0 for [`Refusal::Seats`], which concerns them all.
+    pub seat: u64,
+}
+
+impl fmt::Display for SeatRefusal {
+    fn fmt(&self, f: &mut fmt::Formatter) -> fmt::Result {
+        match self.seat {
+            0 => write!(f, "{}", self.refusal),
+            seat => write!(f, "seat {seat}: {}", self.refusal),
+        }
+    }
+}
+
+impl error::Error for SeatRefusal {}

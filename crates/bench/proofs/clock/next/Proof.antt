@@ -1,3 +1,5 @@
+use Prim.Native.Nat.{_+_}
+use native.Mathlib.Omega.{arith}
 use borrow.Author.Needs.{needs}
 use borrow.Author.Tests.{lt-ltb, le-ltb}
 use Rattle.bench.specs.Clock.{next}
@@ -17,11 +19,17 @@ add-at c = search needs
 
 returns : tie.Need-returns
 unfolding next
-returns c = rw (lt-ltb _ _ (c .if1 .taken), c .before .before .before .before .can-go-on .ensures)
+returns c =
+    let called = c .before .before .before .before in
+    let k = called .before .before .before .args .c in
+    rw (lt-ltb (k .at + 1) (k .seats) (omega (arith, c .if1 .taken)), called .can-go-on .ensures)
 
 returns-2 : tie.Need-returns-2
 unfolding next
-returns-2 c = rw (le-ltb _ _ (c .if1 .left), c .before .before .before .before .can-go-on .ensures)
+returns-2 c =
+    let called = c .before .before .before .before in
+    let k = called .before .before .before .args .c in
+    rw (le-ltb (k .at + 1) (k .seats) (omega (arith, c .if1 .left)), called .can-go-on .ensures)
 
 pub next-spec : {M : Type 1} → statement M
 next-spec = tie.close (tie.spec sub-left can-go-on-requires add-at returns returns-2)

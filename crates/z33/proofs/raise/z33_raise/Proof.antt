@@ -16,7 +16,7 @@ use Rattle.z33.proofs.raise.z33_raise.Lts as lts
 use Rattle.refusals.proofs.raise_check.Reads as raise-check-reads
 use Rattle.row.proofs.write_row.Reads as write-row-reads
 use Rattle.runtime.proofs.raise.raise.Reads as raise-reads
-use Rattle.z33.proofs.state.Reads as state-reads
+use Rattle.machine.proofs.state.Reads as state-reads
 
 raise-check-requires : tie.Need-raise-check-requires
 raise-check-requires c κs = search needs

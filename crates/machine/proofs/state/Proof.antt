@@ -1,6 +1,6 @@
 use borrow.Author.Needs.{needs}
-use Rattle.z33.proofs.state.Statement.{statement}
-use Rattle.z33.proofs.state.Tie as tie
+use Rattle.machine.proofs.state.Statement.{statement}
+use Rattle.machine.proofs.state.Tie as tie
 
 registers-requires : tie.Need-registers-requires
 registers-requires c κs = search needs
