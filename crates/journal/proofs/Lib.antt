@@ -1,0 +1,4 @@
+pub mod Still
+pub mod Shape
+pub mod Cells
+pub mod OneWrite

@@ -1,0 +1,4 @@
+pub mod Writes
+pub mod Journal
+pub mod Calls
+pub mod StepBack
