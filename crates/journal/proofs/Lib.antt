@@ -5,3 +5,5 @@ pub mod OneWrite
 pub mod Step
 pub mod Record
 pub mod Ring
+pub mod Grows
+pub mod Checks
