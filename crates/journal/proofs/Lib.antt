@@ -7,3 +7,5 @@ pub mod Record
 pub mod Ring
 pub mod Grows
 pub mod Checks
+pub mod Unwind
+pub mod StepBack
