@@ -9,3 +9,5 @@ pub mod Grows
 pub mod Checks
 pub mod Unwind
 pub mod StepBack
+pub mod Past
+pub mod Calls

@@ -16,7 +16,7 @@ use Rattle.definition.specs.Calls.{isBelow}
 use Rattle.definition.proofs.Verdict.{and-left, and-right, and-both}
 use Rattle.definition.proofs.Row.{below-in}
 use Rattle.journal.specs.Journal.{startOf, countOf, records, recordFrom, recordAt, putRecord, keptPlace, newest, remember, forgetNewest, wholeRecords, isJournal}
-use Rattle.journal.specs.StepBack.{Remembers}
+use Rattle.journal.specs.StepBack.{Ring}
 use Rattle.journal.proofs.Record.{below-is}
 
 -- what test 20 says of a journal, whichever record is gone back to
@@ -383,8 +383,8 @@ forgotten j J =
 
 -- ---- the theorem
 
-pub remembers : (r j : List ℤ) → isJournal j ≡ true → length r ≡ 37 → Remembers r j
-remembers r j h l =
+pub ring : Ring
+ring r j h l =
     let J = journal-in j h in
     let m = remembered j r J l in
     record { fits = journal-is (remember r j) (m .good); size = m .size; last = newest-remember j r J l; older = m .older; more = m .more; full = m .full }

@@ -16,11 +16,11 @@ use Rattle.definition.proofs.Row.{machine-back, accepted-machine, row-back}
 use Rattle.definition.proofs.Accepted.{run-ends, call-is, runs-accepted}
 use Rattle.journal.specs.Journal.{countOf, records, isJournal, journal}
 use Rattle.journal.specs.Calls.{noJournal, withJournal, runJournal, Backward, backward, back}
-use Rattle.journal.specs.StepBack.{past, pasts, runsJournal, backs, left, Restored, GoesBack, StepBack}
+use Rattle.journal.specs.StepBack.{past, pasts, runsJournal, backs, left, Restored, GoesBack, StepBack, SameRun}
 use Rattle.journal.proofs.Ring.{JournalIn, journal-in, journal-is}
 use Rattle.journal.proofs.Unwind.{grown-at, kept-at, Noted, run-noted, Unwound, unwind}
 
-pub run-is : (n : ℕ) (l : Lent) (j : List ℤ) → Accepted l → isJournal j ≡ true → runJournal n l j ≡ called (runCall n l .answer) (runCall n l .left, journal n (lentMachine l) j)
+pub run-is : SameRun
 unfolding runJournal withJournal
 run-is n l j a h =
     let c = runCall n l in

@@ -1,21 +1,22 @@
 -- "Step back" (document 02, Card 11): what is proved of it.
 use mathlib.Core.Path.{_≡_}
 use mathlib.Core.Logic.{_≢_}
-use mathlib.Core.Bool.{Bool, true, false, cond}
+use mathlib.Core.Bool.{Bool, true, false, not, cond, _||_}
 use mathlib.Core.List.{List, [], _∷_}
-use Prim.Native.Nat.{ℕ, zero, suc, _<_, _≤_}
+use Prim.Native.Nat.{ℕ, zero, suc, _+_, _<_, _≤_}
 use lib.IntN.{ℤ}
 use lib.ListN.{length, getD, take}
+use lib.Dec.{eqb}
 use Rattle.definition.specs.declared.Cell.{Cell}
 use Rattle.definition.specs.declared.Error.the-variants.{InvalidMemoryAccess}
-use Rattle.definition.specs.Exception.{OUTPUT-FULL, CYCLES-FULL}
+use Rattle.definition.specs.Exception.{BUDGET-SPENT, OUTPUT-FULL, CYCLES-FULL}
 use Rattle.definition.specs.Memory.{cellCount, putCell}
 use Rattle.definition.specs.Exec.{Core, Res, ok, err}
 use Rattle.definition.specs.Runtime.{Machine, attempt, Outcome, completed, stopped, step, uncounted}
-use Rattle.definition.specs.Calls.{rowOf, accepted, Called, Lent, lentMachine, runCall, calls, fresh, deliver, drain, load, setRegister, raise}
+use Rattle.definition.specs.Calls.{rowOf, accepted, Called, called, Lent, lentMachine, lentOf, runCall, calls, fresh, deliver, drain, load, setRegister, raise}
 use Rattle.definition.specs.UserMode.{Accepted}
 use Rattle.journal.specs.Writes.{Held, heldAt, instructionWrites, stepWrites}
-use Rattle.journal.specs.Journal.{WRITES-MOST, countOf, with-start, records, newest, remember, isJournal, begun, stepRecord, noted}
+use Rattle.journal.specs.Journal.{WRITES-MOST, RECORD, countOf, with-start, records, newest, remember, isJournal, begins, begun, stepRecord, noted, journal}
 use Rattle.journal.specs.Calls.{runJournal, emptied, freshJournal, deliverJournal, drainJournal, loadJournal, setRegisterJournal, raiseJournal, Backward, backward, back}
 
 -- ---- the cells that a step writes
@@ -57,6 +58,9 @@ pub record Remembers (r j : List ℤ) : Type 0 where
   pub more : countOf j < records j → countOf (remember r j) ≡ suc (countOf j)
   pub full : countOf j ≡ records j → countOf (remember r j) ≡ records j
 
+abbrev pub Ring : Type 0
+Ring = (r j : List ℤ) → isJournal j ≡ true → length r ≡ RECORD → Remembers r j
+
 -- "keeps, for every step begun [...]; stops 6 and 7 begin no step"
 pub record Notes (m : Machine) (j : List ℤ) : Type 0 where
   pub completes : (w : Machine) → step m ≡ completed w → noted m j ≡ remember (stepRecord m) j
@@ -74,6 +78,11 @@ goOnPast (stopped n d w) h k = h
 unfoldable pub past : ℕ → Machine → List Machine → List Machine
 past zero m h = h
 past (suc n) m h = goOnPast (step m) (cond (begun (step m)) (m ∷ h) h) (past n)
+
+-- They are the machines that the runs on smaller budgets leave, and as many as the run completed steps, with one that stopped, if one did.
+pub record Past (n : ℕ) (l : Lent) : Type 0 where
+  pub each : (i k : ℕ) → suc i + k ≡ length (past n (lentMachine l) []) → lentOf (getD (past n (lentMachine l) []) i (lentMachine l)) ≡ runCall k l .left
+  pub many : length (past n (lentMachine l) []) ≡ runCall n l .answer .steps + cond (eqb (runCall n l .answer .stop) BUDGET-SPENT || not (begins (runCall n l .answer .stop))) 0 1
 
 -- Of a list of runs, one after another.
 unfoldable pub pasts : List ℕ → Lent → List Machine → List Machine
@@ -117,6 +126,11 @@ abbrev pub StepBack : Type 0
 StepBack = (ns : List ℕ) (l : Lent) (j : List ℤ) → Accepted l → isJournal j ≡ true → GoesBack ns l j
 
 -- ---- the calls with a journal
+
+-- "`z33_run_journal` answers exactly what `z33_run` answers and leaves the same machine."
+abbrev pub SameRun : Type 0
+SameRun =
+    (n : ℕ) (l : Lent) (j : List ℤ) → Accepted l → isJournal j ≡ true → runJournal n l j ≡ called (runCall n l .answer) (runCall n l .left, journal n (lentMachine l) j)
 
 -- Not refused, a call c answers what it answers without a journal and leaves that beside the journal j.
 pub record LeavesBoth {A L : Type 0} (c : Called A (L × List ℤ)) (d : Called A L) (j : List ℤ) : Type 0 where
