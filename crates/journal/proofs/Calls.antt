@@ -1,4 +1,4 @@
--- The calls with a journal: what they do to it, what they leave when refused, and which steps are noted.
+-- The calls with a journal: what they do to it, and what they leave when refused.
 use mathlib.Core.Path.{_≡_, refl, sym, ap, _∙_}
 use mathlib.Core.Logic.{_≢_}
 use mathlib.Core.Bool.{Bool, true, false, not, cond, _||_, true≢false}
@@ -14,22 +14,9 @@ use Rattle.definition.specs.declared.Ran.{Ran}
 use Rattle.definition.specs.declared.Raised.{Raised}
 use Rattle.definition.specs.Runtime.{Machine, Outcome, completed, stopped, step}
 use Rattle.definition.specs.Calls.{accepted, passes, Called, called, answer, drainAnswer, raiseAnswer, Lent, ran, runRefused, runCheck, runCall, freshCheck, fresh, deliverCheck, deliver, drainCheck, drain, loadCheck, load, setRegisterCheck, setRegister, raiseCheck, raise, raised}
-use Rattle.journal.specs.Journal.{with-start, remember, wholeRecords, isJournal, begins, begun, stepRecord, noted}
+use Rattle.journal.specs.Journal.{countOf, with-start, wholeRecords, isJournal}
 use Rattle.journal.specs.Calls.{noJournal, withJournal, runJournal, emptied, freshJournal, deliverJournal, drainJournal, loadJournal, setRegisterJournal, raiseJournal, Backward, backCheck, backed, back}
-use Rattle.journal.specs.StepBack.{Notes, LeavesBoth, Empties, RefusedKeeps}
-
--- ---- a step noted
-
-pub notes : (m : Machine) (j : List ℤ) → Notes m j
-unfolding noted begun begins
-notes m j =
-    let by : Outcome → List ℤ = λ (o : Outcome). cond (begun o) (remember (stepRecord m) j) j in
-    record {
-      completes = λ w e. ap by e;
-      stops = λ n d w e a b. ap by e ∙ (λ i. cond (not (ne-eqb n 6 a i || ne-eqb n 7 b i)) (remember (stepRecord m) j) j);
-      stop-6 = λ d w e. ap by e;
-      stop-7 = λ d w e. ap by e;
-    }
+use Rattle.journal.specs.StepBack.{LeavesBoth, Empties, RefusedKeeps}
 
 -- ---- a call that is X where its own tests pass and else Y
 

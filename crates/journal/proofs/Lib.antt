@@ -1,3 +1,4 @@
+pub mod Notes
 pub mod Still
 pub mod Shape
 pub mod Cells
@@ -11,3 +12,4 @@ pub mod Unwind
 pub mod StepBack
 pub mod Past
 pub mod Calls
+pub mod Leaves

@@ -355,6 +355,7 @@ module _ (j r : List ℤ) (J : JournalIn j) (l : length r ≡ 37) where
 pub record Forgotten (j k : List ℤ) : Type 0 where
   pub good : JournalIn k
   pub size : records k ≡ records j
+  pub count : countOf k ≡ countOf j - 1
   pub less : (x : ℕ) → suc x < countOf j → x < countOf k
   pub older : (x : ℕ) → newest x k ≡ newest (suc x) j
 
@@ -374,6 +375,7 @@ forgotten j J =
     record {
       good = record { long = (let a : length w ≡ 2 + 37 * records w = omega arith in a); some = omega arith; few = omega arith; start-is = is-number w 0 _ (getD-set-other j 1 0 (pos (countOf j - 1)) (pos 0) (λ (e : 0 ≡ 1). omega arith) ∙ J .start-is); start-in = omega arith; count-is = is-number w 1 _ (getD-set-same j 1 (pos (countOf j - 1)) (pos 0) (omega arith)); count-in = omega arith };
       size = rw';
+      count = cw;
       less = λ x h. omega arith;
       older = λ x.
           (let o : countOf j - 1 - suc x ≡ countOf j - suc (suc x) = omega arith in

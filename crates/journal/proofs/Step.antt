@@ -22,7 +22,9 @@ use Rattle.definition.proofs.Keeps.{Good, attempt-keeps}
 use Rattle.definition.proofs.AcceptedCore.{any-laws}
 use Rattle.journal.specs.Writes.{Held, heldAt, instructionWrites, entryWrites, stepWrites, undone}
 use Rattle.journal.specs.Journal.{begins}
-use Rattle.journal.specs.StepBack.{cellsOf}
+use Rattle.journal.specs.StepBack.{cellsOf, SoundCells}
+-- Not cited: proved first, so that a step noted wrongly is refused there.
+use Rattle.journal.proofs.Notes.{notes}
 use Rattle.journal.proofs.Still.{s-set}
 use Rattle.journal.proofs.Cells.{undone-append, undone-count, saved-back}
 use Rattle.journal.proofs.OneWrite.{InList, attempt-holds}
@@ -145,9 +147,6 @@ module _ (m : Machine) (a : AcceptedMachine m) where
 abbrev pub Fit : ℕ → List Held → Type 0
 Fit n [] = Unit {0}
 Fit n (h ∷ hs) = ((h .address < n) × Sound (h .cell)) × Fit n hs
-
-abbrev SoundCells : List ℤ → Type 0
-SoundCells l = (n : ℕ) → n < cellCount l → Sound (cellAt l n)
 
 fit-append : (n : ℕ) (a b : List Held) → Fit n a → Fit n b → Fit n (a ++ b)
 fit-append n [] b p q = q

@@ -10,13 +10,15 @@ use lib.Dec.{eqb}
 use Rattle.definition.specs.declared.Cell.{Cell}
 use Rattle.definition.specs.declared.Error.the-variants.{InvalidMemoryAccess}
 use Rattle.definition.specs.Exception.{BUDGET-SPENT, OUTPUT-FULL, CYCLES-FULL}
-use Rattle.definition.specs.Memory.{cellCount, putCell}
+use Rattle.definition.specs.Constants.{QUEUE-MOST, OUTPUT-MOST}
+use Rattle.definition.specs.Memory.{cellCount, cellAt, putCell}
 use Rattle.definition.specs.Exec.{Core, Res, ok, err}
 use Rattle.definition.specs.Runtime.{Machine, attempt, Outcome, completed, stopped, step, uncounted}
-use Rattle.definition.specs.Calls.{rowOf, accepted, Called, called, Lent, lentMachine, lentOf, runCall, calls, fresh, deliver, drain, load, setRegister, raise}
+use Rattle.definition.specs.Calls.{rowOf, rowTests, accepted, verdict, passes, Called, called, Lent, lentMachine, lentOf, runCall, calls, fresh, deliver, drain, load, setRegister, raise}
 use Rattle.definition.specs.UserMode.{Accepted}
+use Rattle.definition.specs.Accepted.{Sound}
 use Rattle.journal.specs.Writes.{Held, heldAt, instructionWrites, stepWrites}
-use Rattle.journal.specs.Journal.{WRITES-MOST, RECORD, countOf, with-start, records, newest, remember, isJournal, begins, begun, stepRecord, noted, journal}
+use Rattle.journal.specs.Journal.{WRITES-MOST, RECORD, countOf, with-start, records, newest, remember, wholeRecords, isJournal, begins, begun, stepRecord, noted, journal}
 use Rattle.journal.specs.Calls.{runJournal, emptied, freshJournal, deliverJournal, drainJournal, loadJournal, setRegisterJournal, raiseJournal, Backward, backward, back}
 
 -- ---- the cells that a step writes
@@ -99,7 +101,10 @@ unfoldable pub backs : ℕ → Backward → Backward
 backs zero b = b
 backs (suc i) b = backs i (back b .left)
 
--- What going back is lent after them.
+abbrev pub SoundCells : List ℤ → Type 0
+SoundCells l = (n : ℕ) → n < cellCount l → Sound (cellAt l n)
+
+-- What going back is lent after a list of runs.
 abbrev pub left : Lent × List ℤ → Backward
 left x = backward (x .0 .cells) (x .0 .row) (x .1)
 
@@ -125,6 +130,18 @@ pub record GoesBack (ns : List ℕ) (l : Lent) (j : List ℤ) : Type 0 where
 abbrev pub StepBack : Type 0
 StepBack = (ns : List ℕ) (l : Lent) (j : List ℤ) → Accepted l → isJournal j ≡ true → GoesBack ns l j
 
+-- Whatever the journal holds ("A journal that missed a call or write, or is another machine's, restores only what it holds"): going back that
+-- is not refused leaves a row, cells and a journal that no call refuses by 1, 4, 5 or 20, queue and output record aside.
+pub record BackLeaves (b : Backward) : Type 0 where
+  pub row : passes (verdict (rowTests QUEUE-MOST OUTPUT-MOST (cellCount (back b .left .cells)) (back b .left .row))) ≡ true
+  pub size : length (back b .left .cells) ≡ length (b .cells)
+  pub undamaged : SoundCells (b .cells) → SoundCells (back b .left .cells)
+  pub journal : isJournal (back b .left .journal) ≡ true
+  pub count : countOf (b .journal) ≡ suc (countOf (back b .left .journal))
+
+abbrev pub NoDamage : Type 0
+NoDamage = (b : Backward) → back b .answer .refusal ≡ 0 → BackLeaves b
+
 -- ---- the calls with a journal
 
 -- "`z33_run_journal` answers exactly what `z33_run` answers and leaves the same machine."
@@ -146,6 +163,12 @@ pub record Empties : Type 0 where
   pub by-load : (cells image : List ℤ) (start : ℕ) (j : List ℤ) → loadJournal cells image start j .answer .refusal ≡ 0 → LeavesBoth (loadJournal cells image start j) (load cells image start) (emptied j)
   pub by-set-register : (row : List ℤ) (r : ℕ) (w : ℤ) (j : List ℤ) → setRegisterJournal row r w j .answer .refusal ≡ 0 → LeavesBoth (setRegisterJournal row r w j) (setRegister row r w) (emptied j)
   pub by-raise : (cells row : List ℤ) (code : ℕ) (j : List ℤ) → raiseJournal cells row code j .answer .refusal ≡ 0 → LeavesBoth (raiseJournal cells row code j) (raise cells row code) (emptied j)
+
+-- What they leave is a journal again, with nothing kept.
+pub record Emptied : Type 0 where
+  pub by-fresh : (j : List ℤ) → wholeRecords j ≡ true → isJournal (with-start 0 (emptied j)) ≡ true
+  pub by-others : (j : List ℤ) → isJournal j ≡ true → isJournal (emptied j) ≡ true
+  pub none-kept : (j : List ℤ) → countOf (emptied j) ≡ 0
 
 -- "A refusal gives number and place [...] and changes nothing."
 pub record RefusedKeeps : Type 0 where
