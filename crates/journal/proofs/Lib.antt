@@ -1,3 +1,4 @@
+pub mod Cases
 pub mod Notes
 pub mod Still
 pub mod Shape

@@ -2,3 +2,4 @@ pub mod Writes
 pub mod Journal
 pub mod Calls
 pub mod StepBack
+pub mod Cases
