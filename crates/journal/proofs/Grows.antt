@@ -5,7 +5,7 @@ use mathlib.Core.List.{List}
 use Prim.Native.Nat.{ℕ, zero, suc, _-_, _≤_}
 use native.Mathlib.Omega.{arith}
 use lib.IntN.{ℤ}
-use lib.ListN.{length, getD, set, take}
+use lib.ListN.{length, getD, set, take, length-set}
 use lib.Seq.{take-take, take-set-le}
 use lib.Dec.{ltb, eqb}
 use Rattle.definition.specs.Constants.{CYCLES-END, TIMER-INTERVAL-PORT}
@@ -21,9 +21,10 @@ pub record Grows (k k' : Console) : Type 0 where
   pub queue : k' .queue ≡ k .queue
   pub more : k .written ≤ k' .written
   pub front : take (k .written) (k' .output) ≡ take (k .written) (k .output)
+  pub size : length (k' .output) ≡ length (k .output)
 
 pub grows-here : (k : Console) → Grows k k
-grows-here k = record { queue = refl; more = omega arith; front = refl }
+grows-here k = record { queue = refl; more = omega arith; front = refl; size = refl }
 
 pub grows-on : (a b c : Console) → Grows a b → Grows b c → Grows a c
 grows-on a b c x y =
@@ -33,6 +34,7 @@ grows-on a b c x y =
       queue = y .queue ∙ x .queue;
       more = omega arith;
       front = sym (take-take (a .written) (b .written) (c .output) m) ∙ ap (take (a .written)) (y .front) ∙ take-take (a .written) (b .written) (b .output) m ∙ x .front;
+      size = y .size ∙ x .size;
     }
 
 read-grows : (p : ℕ) (k : Console) → Grows k (readPort p k .1)
@@ -40,8 +42,8 @@ unfolding readPort readData
 read-grows p k = go (eqb p 110) (eqb p 111) (inputReady (k .count))
   where
     go : (b d i : Bool) → Grows k ((cond b (status (inputReady (k .count)) (k .marks), with-marks (readStatus (k .marks)) k) (cond d (cond {A = ℕ × Console} i (getD (k .queue) (k .start) 0, record { marks = k .marks; queue = k .queue; start = around (length (k .queue)) (suc (k .start)); count = k .count - 1; output = k .output; written = k .written }) (0, k)) (0, k))) .1)
-    go true d i = record { queue = refl; more = omega arith; front = refl }
-    go false true true = record { queue = refl; more = omega arith; front = refl }
+    go true d i = record { queue = refl; more = omega arith; front = refl; size = refl }
+    go false true true = record { queue = refl; more = omega arith; front = refl; size = refl }
     go false true false = grows-here k
     go false false i = grows-here k
 
@@ -50,8 +52,8 @@ unfolding writePort writeData
 write-grows p w k = go (eqb p 110) (eqb p 111)
   where
     go : (b d : Bool) → Grows k (cond b (with-marks (writeControl (inputReady (k .count)) w (k .marks)) k) (cond d (writeData w k) k))
-    go true d = record { queue = refl; more = omega arith; front = refl }
-    go false true = record { queue = refl; more = omega arith; front = take-set-le (k .written) (k .output) (k .written) _ (omega arith) }
+    go true d = record { queue = refl; more = omega arith; front = refl; size = refl }
+    go false true = record { queue = refl; more = omega arith; front = take-set-le (k .written) (k .output) (k .written) _ (omega arith); size = length-set (k .output) (k .written) _ }
     go false false = grows-here k
 
 -- ---- a step, from the console a
@@ -75,7 +77,7 @@ unfolding poll
 poll-grows a m p = go (interruptEnable (m .core .regs) && m .console .marks .pending) (interruptEnable (m .core .regs) && m .timer .mark)
   where
     go : (q t : Bool) → TurnGrows a (cond q (enters HARDWARE-INTERRUPT (with-mark false m)) (cond t (enters HARDWARE-INTERRUPT (with-timer (with-timer-mark false (m .timer)) m)) (completes m)))
-    go true t = record { queue = p .queue; more = p .more; front = p .front }
+    go true t = record { queue = p .queue; more = p .more; front = p .front; size = p .size }
     go false true = p
     go false false = p
 

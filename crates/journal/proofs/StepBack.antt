@@ -8,17 +8,17 @@ use lib.IntN.{ℤ}
 use lib.ListN.{length, getD, take}
 use Rattle.definition.specs.declared.Ran.{Ran}
 use Rattle.definition.specs.Io.{Console}
-use Rattle.definition.specs.Runtime.{Machine, run}
+use Rattle.definition.specs.Runtime.{Machine, with-console, run}
 use Rattle.definition.specs.Calls.{machineOf, rowOf, accepted, passes, Called, called, answer, Lent, lent, lentMachine, lentOf, runCheck, ran, runCall, calls}
 use Rattle.definition.specs.UserMode.{Accepted}
 use Rattle.definition.specs.Accepted.{AcceptedMachine}
-use Rattle.definition.proofs.Row.{machine-back, accepted-machine, row-back}
+use Rattle.definition.proofs.Row.{machine-back, accepted-machine, machine-accepted, row-back}
 use Rattle.definition.proofs.Accepted.{run-ends, call-is, runs-accepted}
 use Rattle.journal.specs.Journal.{countOf, records, isJournal, journal}
 use Rattle.journal.specs.Calls.{noJournal, withJournal, runJournal, Backward, backward, back}
 use Rattle.journal.specs.StepBack.{past, pasts, runsJournal, backs, left, Restored, GoesBack, StepBack, SameRun}
 use Rattle.journal.proofs.Ring.{JournalIn, journal-in, journal-is}
-use Rattle.journal.proofs.Unwind.{grown-at, kept-at, Noted, run-noted, Unwound, unwind}
+use Rattle.journal.proofs.Unwind.{grown-at, kept-at, chain-at, Noted, run-noted, Unwound, unwind}
 
 pub run-is : SameRun
 unfolding runJournal withJournal
@@ -72,6 +72,19 @@ lent-output : (l : Lent) → lentMachine l .console .output ≡ l .output
 unfolding machineOf
 lent-output l = refl
 
+-- the machine m, its output record being o
+with-output : Machine → List ℕ → Machine
+with-output m o =
+    with-console (record { marks = m .console .marks; queue = m .console .queue; start = m .console .start; count = m .console .count; output = o; written = m .console .written }) m
+
+output-accepted : (m : Machine) (o : List ℕ) → length o ≡ length (m .console .output) → AcceptedMachine m → Accepted (lent (m .core .cells) (m .console .queue) o (rowOf m))
+unfolding rowOf with-output
+output-accepted m o e a =
+    let k = a .console-in in
+    let small = k .small in
+    let written = k .written-in in
+    machine-accepted (with-output m o) (record { core-in = a .core-in; cycles-in = a .cycles-in; timer-in = a .timer-in; none-counted = a .none-counted; console-in = record { some = k .some; few = k .few; small = omega arith; start-in = k .start-in; count-in = k .count-in; written-in = omega arith } })
+
 pub step-back : StepBack
 step-back ns l j a h =
     let J = journal-in j h in
@@ -90,5 +103,8 @@ step-back ns l j a h =
       restored = λ i n b.
           (let m = getD (pasts ns l []) i (lentMachine l) in
           let g = grown-at (w .console) (pasts ns l []) i (lentMachine l) n (N .grown) in
-          record { cells = un i n b .cells; row = un i n b .row; queue = sym (lent-queue (x .0)) ∙ g .queue; output = ap (take (m .console .written)) (sym (lent-output (x .0))) ∙ g .front });
+          let lq : x .0 .queue ≡ m .console .queue = sym (lent-queue (x .0)) ∙ g .queue in
+          let lo : length (x .0 .output) ≡ length (m .console .output) = ap (λ (y : List ℕ). length y) (sym (lent-output (x .0))) ∙ g .size in
+          let again : Accepted (lent (backs (suc i) (left x) .cells) (x .0 .queue) (x .0 .output) (backs (suc i) (left x) .row)) = subst Accepted (λ k. lent (sym (un i n b .cells) k) (sym lq k) (x .0 .output) (sym (un i n b .row) k)) (output-accepted m (x .0 .output) lo (chain-at (w .core .cells) (pasts ns l []) i (lentMachine l) n (N .chain))) in
+          record { cells = un i n b .cells; row = un i n b .row; queue = sym (lent-queue (x .0)) ∙ g .queue; output = ap (take (m .console .written)) (sym (lent-output (x .0))) ∙ g .front; accepted = again });
     }

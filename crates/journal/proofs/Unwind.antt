@@ -60,6 +60,11 @@ kept-at b x j [] i l n q = absurd (omega arith)
 kept-at b x j (m ∷ h) zero l n q = let e = q .0 (omega arith) .0 in omega arith
 kept-at b x j (m ∷ h) (suc i) l n q = let e = kept-at b (suc x) j h i (omega arith) (omega arith) (q .1) in omega arith
 
+pub chain-at : (l : List ℤ) (h : List Machine) (i : ℕ) (d : Machine) → i < length h → Chain l h → AcceptedMachine (getD h i d)
+chain-at l [] i d n c = absurd (omega arith)
+chain-at l (m ∷ h) zero d n c = c .0 .1
+chain-at l (m ∷ h) (suc i) d n c = chain-at (m .core .cells) h i d (omega arith) (c .1)
+
 -- ---- one more record, and one less
 
 -- as many are kept as there is room for

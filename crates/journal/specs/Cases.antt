@@ -111,6 +111,9 @@ pub record Order : Type 0 where
   pub row-next : back (backward (cellsOf 256 []) [] []) .answer ≡ done 4 0
   pub own-first : deliverJournal [] (replicate ROW (pos 0)) [] [] .answer ≡ done 2 0
   pub then-20 : deliverJournal (0 ∷ []) (replicate ROW (pos 0)) [] [] .answer ≡ done 20 0
+  -- "it gets count 0"; fresh "sets start 0 too"
+  pub emptied : deliverJournal (0 ∷ []) (replicate ROW (pos 0)) [] (set (fresh 1) 1 (pos 1)) .left .1 ≡ fresh 1
+  pub made : freshJournal (cellsOf 256 []) (replicate ROW (pos 0)) (set (fresh 1) 0 (pos 9)) .left .1 ≡ fresh 1
   pub length-only : freshJournal (cellsOf 256 []) (replicate ROW (pos 0)) (set (fresh 1) 0 (pos 9)) .answer ≡ accepted
 
 pub record Cases : Type 0 where

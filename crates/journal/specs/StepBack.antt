@@ -14,7 +14,7 @@ use Rattle.definition.specs.Constants.{QUEUE-MOST, OUTPUT-MOST}
 use Rattle.definition.specs.Memory.{cellCount, cellAt, putCell}
 use Rattle.definition.specs.Exec.{Core, Res, ok, err}
 use Rattle.definition.specs.Runtime.{Machine, attempt, Outcome, completed, stopped, step, uncounted}
-use Rattle.definition.specs.Calls.{rowOf, rowTests, accepted, verdict, passes, Called, called, Lent, lentMachine, lentOf, runCall, calls, fresh, deliver, drain, load, setRegister, raise}
+use Rattle.definition.specs.Calls.{rowOf, rowTests, accepted, verdict, passes, Called, called, Lent, lent, lentMachine, lentOf, runCall, calls, fresh, deliver, drain, load, setRegister, raise}
 use Rattle.definition.specs.UserMode.{Accepted}
 use Rattle.definition.specs.Accepted.{Sound}
 use Rattle.journal.specs.Writes.{Held, heldAt, instructionWrites, stepWrites}
@@ -115,6 +115,8 @@ pub record Restored (b : Backward) (l : Lent) (m : Machine) : Type 0 where
   pub row : b .row ≡ rowOf m
   pub queue : l .queue ≡ m .console .queue
   pub output : take (m .console .written) (l .output) ≡ take (m .console .written) (m .console .output)
+  -- A run from there is not refused.
+  pub accepted : Accepted (lent (b .cells) (l .queue) (l .output) (b .row))
 
 pub record GoesBack (ns : List ℕ) (l : Lent) (j : List ℤ) : Type 0 where
   -- No run is refused, and the machine is that of the runs without a journal.

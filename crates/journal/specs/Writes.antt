@@ -1,4 +1,6 @@
 -- "Step back" (document 02, Card 11): the cells that a step writes, in order of writing, and what each held just before.
+-- It is said beside the definition's step, which keeps no list of its writes: all code is proved against that step as it stands, and runs
+-- without a journal are to cost what they cost.
 use mathlib.Core.Bool.{Bool, true, false, cond}
 use mathlib.Core.List.{List, [], _∷_, _++_}
 use Prim.Native.Nat.{ℕ}
