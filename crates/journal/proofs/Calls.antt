@@ -17,6 +17,8 @@ use Rattle.definition.specs.Calls.{accepted, passes, Called, called, answer, dr
 use Rattle.journal.specs.Journal.{countOf, with-start, wholeRecords, isJournal}
 use Rattle.journal.specs.Calls.{noJournal, withJournal, runJournal, emptied, freshJournal, deliverJournal, drainJournal, loadJournal, setRegisterJournal, raiseJournal, Backward, backCheck, backed, back}
 use Rattle.journal.specs.StepBack.{LeavesBoth, Empties, RefusedKeeps}
+-- Not cited: proved first, so that a wrong call is refused at a case that shows it.
+use Rattle.journal.proofs.Cases.{cases}
 
 -- ---- a call that is X where its own tests pass and else Y
 
