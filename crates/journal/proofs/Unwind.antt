@@ -99,7 +99,7 @@ pub record Noted (r : ℕ) (l : List ℤ) (k : Console) (j : List ℤ) (h : List
   pub chain : Chain l h
   pub grown : Grown k h
 
-step-long : (m : Machine) → length (stepRecord m) ≡ 37
+pub step-long : (m : Machine) → length (stepRecord m) ≡ 37
 unfolding stepRecord
 step-long m = record-length (rowOf m) (stepWrites m) (row-length m) (four-at-most m)
 
