@@ -15,3 +15,4 @@ pub mod Past
 pub mod Calls
 pub mod Leaves
 pub mod Run
+pub mod Turn
