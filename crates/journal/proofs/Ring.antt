@@ -170,11 +170,11 @@ record-set : (p i : ℕ) (z : ℤ) (j : List ℤ) → i < 2 → recordAt p (set 
 unfolding recordAt
 record-set p i z j h = ap (take 37) (drop-set-lt (recordFrom p) j i z (omega arith))
 
-records-length : (j k : List ℤ) → length j ≡ length k → records j ≡ records k
+pub records-length : (j k : List ℤ) → length j ≡ length k → records j ≡ records k
 records-length j k e = ap (λ (n : ℕ). (n - 2) / 37) e
 
 -- a place in the ring
-place-in : (n s c : ℕ) → s < n → c < n → around n (s + c) < n
+pub place-in : (n s c : ℕ) → s < n → c < n → around n (s + c) < n
 unfolding around
 place-in n s c a b = go (ltb (s + c) n) refl
   where
