@@ -1,0 +1,5 @@
+pub mod Writes
+pub mod Journal
+pub mod Calls
+pub mod StepBack
+pub mod Cases
