@@ -11,22 +11,33 @@ ghost use lib.Seq.{sets};
 ghost use Rattle.journal.specs.Journal.{RECORD, recordOf, numbers};
 ghost use Rattle.noting.specs.Meaning.{heldOf, heldsOf, behindRow, fourOf, rowOfState, RowFits};
 
+pub mod find;
+
 // A cell about to be written: its address, and what it holds.
 pub struct Was {
     pub address: u32,
     pub cell: Cell,
 }
 
-// Was the step begun; does its instruction write, and which cell; does it enter a handler, and the three cells of entry. What is not written is
-// a filler.
-pub struct Noted {
-    pub begun: bool,
+// The cell that the instruction writes, if it does; else `was` is a filler.
+pub struct Own {
     pub writes: bool,
-    pub own: Was,
+    pub was: Was,
+}
+
+// The three cells of exception entry, if a handler is entered; else they are fillers.
+pub struct Entry {
     pub enters: bool,
     pub pc: Was,
     pub sr: Was,
     pub code: Was,
+}
+
+// Was the step begun, and what it writes.
+pub struct Noted {
+    pub begun: bool,
+    pub own: Own,
+    pub entry: Entry,
 }
 
 // "the number of cells and four times address and cell in order of writing, unused ones 0"
@@ -38,7 +49,7 @@ pub struct Four {
     pub d: Was,
 }
 
-fn unused() -> Was
+pub fn unused() -> Was
     ensures { λ r. ⌜ r ≡ record { address = 0; cell = record { tag = pos 0; first = pos 0; second = pos 0 } } ⌝ }
 {
     let cell = Cell {
@@ -52,13 +63,15 @@ fn unused() -> Was
 fn in_order(w: Noted) -> Four
     ensures { λ r. ⌜ fourOf r ≡ behindRow (heldsOf w) ⌝ }
 {
-    let own = w.own;
-    let pc = w.pc;
-    let sr = w.sr;
-    let code = w.code;
+    let o = w.own;
+    let e = w.entry;
+    let own = o.was;
+    let pc = e.pc;
+    let sr = e.sr;
+    let code = e.code;
     let none = unused();
-    if w.writes {
-        if w.enters {
+    if o.writes {
+        if e.enters {
             return Four {
                 count: 4,
                 a: own,
@@ -75,7 +88,7 @@ fn in_order(w: Noted) -> Four
             d: none,
         };
     }
-    if w.enters {
+    if e.enters {
         return Four {
             count: 3,
             a: pc,
