@@ -42,7 +42,7 @@ parts-are l row cs h k =
     let front : take 20 (row ++ drop 20 l) ≡ row = take-at row (drop 20 l) 20 k in
     (λ i. front i ++ (cs ++ none i)) ∙ ap (λ (t : List ℤ). row ++ t) (append-nil cs)
 
-row-length : (m : State) → length (rowOfState m) ≡ 20
+pub row-length : (m : State) → length (rowOfState m) ≡ 20
 unfolding rowOf
 row-length m = refl
 

@@ -12,6 +12,7 @@ ghost use Rattle.journal.specs.Journal.{RECORD, recordOf, numbers};
 ghost use Rattle.noting.specs.Meaning.{heldOf, heldsOf, behindRow, fourOf, rowOfState, RowFits};
 
 pub mod find;
+pub mod keep;
 
 // A cell about to be written: its address, and what it holds.
 pub struct Was {
