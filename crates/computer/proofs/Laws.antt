@@ -135,7 +135,7 @@ module _ (l : List ℤ) (q o : List ℕ) (m : State) (f : Fetched) (h : Fetches 
   abbrev Served-is : Served → Type 0
   Served-is r = Serves l q (length o) (m .k) (m .timer) (f .i .cost) (requested (guardOf m) l f) r
 
-  turn-is : (r : Served) → Served-is r → servedTurn l q o before (f .i .cost) r ≡ M.turn before
+  pub turn-is : (r : Served) → Served-is r → servedTurn l q o before (f .i .cost) r ≡ M.turn before
   unfolding M.turn M.guard
   turn-is r v = v .is o refl (core l (m .s)) (m .cycles) (m .fence) ∙ ap (M.afterAttempt before) (attempt-is (guardOf m) l (m .s) f h)
 
