@@ -28,7 +28,7 @@ use Rattle.definition.specs.Exec.{Res, Exec, core, ok, err, and_then, ◌>>=◌,
 use Rattle.definition.specs.Instructions.{cell_of, word_of, target_of, register_word, place_of}
 use Rattle.definition.proofs.Words.{wrap-word}
 use Rattle.memory.proofs.Laws.{get-here}
-use Rattle.registers.specs.Meaning.{result}
+use Rattle.registers.specs.Meaning.{res_of}
 use Rattle.registers.proofs.Laws.{then_ok, then-err}
 use Rattle.arguments.specs.declared.Arg.{Arg}
 use Rattle.arguments.specs.declared.Resolved.{Resolved}
@@ -171,7 +171,7 @@ abbrev pub address_in : Error → ℤ → Exec ℕ
 address_in e w = or_address (address_of w) e
 
 module _ (l : List ℤ) (e : Error) where
-  word-in-res : (v : Cell) (b : Bool) (d : Error) (s : Registers) → word_res l (took_word (and_then (result v b d (core l s)) (λ v. take_word v e))) ≡ and_then (result v b d (core l s)) (λ v. take_word v e)
+  word-in-res : (v : Cell) (b : Bool) (d : Error) (s : Registers) → word_res l (took_word (and_then (res_of v b d (core l s)) (λ v. take_word v e))) ≡ and_then (res_of v b d (core l s)) (λ v. take_word v e)
   unfolding and_then
   word-in-res v true d s = word-res l s e _
   word-in-res v false d s = refl
@@ -179,7 +179,7 @@ module _ (l : List ℤ) (e : Error) where
   pub in-cell-is : (c : CellTaken) (t : WordTaken) → t ≡ took_word (and_then (cell_res l c) (λ v. take_word v e)) → word_res l t ≡ and_then (cell_res l c) (λ v. take_word v e)
   in-cell-is c t h = ap (word_res l) h ∙ word-in-res c.value c.ok c.error c.s
 
-  address-in-res : (w : ℤ) (b : Bool) (d : Error) (s : Registers) → address_res l (took_address (and_then (result w b d (core l s)) (address_in e))) ≡ and_then (result w b d (core l s)) (address_in e)
+  address-in-res : (w : ℤ) (b : Bool) (d : Error) (s : Registers) → address_res l (took_address (and_then (res_of w b d (core l s)) (address_in e))) ≡ and_then (res_of w b d (core l s)) (address_in e)
   unfolding and_then
   address-in-res w true d s = address-res l s e _
   address-in-res w false d s = refl

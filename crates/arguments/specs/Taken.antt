@@ -4,7 +4,7 @@ use Rattle.definition.specs.declared.Cell.{Cell}
 use Rattle.definition.specs.declared.Error.TheVariants.{Reset}
 use Rattle.definition.specs.Memory.{empty}
 use Rattle.definition.specs.Exec.{Core, Res, ok, err, core}
-use Rattle.registers.specs.Meaning.{result}
+use Rattle.registers.specs.Meaning.{res_of}
 use Rattle.arguments.specs.declared.taken.WordTaken.{WordTaken}
 use Rattle.arguments.specs.declared.taken.AddressTaken.{AddressTaken}
 use Rattle.arguments.specs.declared.taken.CellTaken.{CellTaken}
@@ -24,10 +24,10 @@ took_cell (err e c) = record { ok = false; error = e; value = empty; s = c.regs 
 
 -- The result again: taking changes no cell.
 abbrev pub word_res : List ℤ → WordTaken → Res ℤ
-word_res l t = result t.value t.ok t.error (core l t.s)
+word_res l t = res_of t.value t.ok t.error (core l t.s)
 
 abbrev pub address_res : List ℤ → AddressTaken → Res ℕ
-address_res l t = result t.value t.ok t.error (core l t.s)
+address_res l t = res_of t.value t.ok t.error (core l t.s)
 
 abbrev pub cell_res : List ℤ → CellTaken → Res Cell
-cell_res l t = result t.value t.ok t.error (core l t.s)
+cell_res l t = res_of t.value t.ok t.error (core l t.s)

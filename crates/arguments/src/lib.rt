@@ -17,7 +17,7 @@ use taken::{AddressTaken, CellTaken, WordTaken};
 pub mod taken;
 
 // An operand as decoded: "modes: 0 none, 1 immediate, 2 register, 3 direct, 4 indirect, 5 indexed".
-#[derive(Drop)]
+#[derive(Clone, Copy)]
 pub struct Arg {
     pub mode: u32,
     pub reg: u32,
@@ -25,7 +25,7 @@ pub struct Arg {
 }
 
 // The address that an operand names, and the word of its register that it was taken from: where it has no such register, a word that is no empty cell's.
-#[derive(Drop)]
+#[derive(Clone, Copy)]
 pub struct Resolved {
     pub base: Word,
     pub at: Address,

@@ -7,7 +7,7 @@ ghost use Rattle.arguments.specs.Taken.{took_word, took_address, took_cell, word
 
 use definition::{Address, Cell, Error, Found, Given, Registers, Word};
 
-#[derive(Drop)]
+#[derive(Clone, Copy)]
 pub struct WordTaken {
     pub ok: bool,
     pub error: Error,
@@ -15,7 +15,7 @@ pub struct WordTaken {
     pub s: Registers,
 }
 
-#[derive(Drop)]
+#[derive(Clone, Copy)]
 pub struct AddressTaken {
     pub ok: bool,
     pub error: Error,
@@ -23,7 +23,7 @@ pub struct AddressTaken {
     pub s: Registers,
 }
 
-#[derive(Drop)]
+#[derive(Clone, Copy)]
 pub struct CellTaken {
     pub ok: bool,
     pub error: Error,

@@ -9,7 +9,7 @@ use line::LineRead;
 use line::content::row;
 
 // How many lines stand in order, and whether these are all.
-#[derive(Drop)]
+#[derive(Clone, Copy)]
 pub struct Extent {
     pub whole: bool,
     pub lines: usize,

@@ -6,14 +6,14 @@ ghost use Rattle.bench.specs.Clock.{next, answer};
 use super::{Benched, Seat};
 
 // Where a part of a buffer begins and ends.
-#[derive(Drop)]
+#[derive(Clone, Copy)]
 pub struct Span {
     pub from: usize,
     pub to: usize,
 }
 
 // Where a bench is.
-#[derive(Drop)]
+#[derive(Clone, Copy)]
 pub struct Clock {
     // What it answers, if it is refused.
     pub refusal: u64,
@@ -29,7 +29,7 @@ pub struct Clock {
 }
 
 // What a turn leaves in the list.
-#[derive(Drop)]
+#[derive(Clone, Copy)]
 pub struct Took {
     pub steps: u64,
     pub stop: u32,

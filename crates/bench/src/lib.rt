@@ -6,7 +6,7 @@ pub mod clock;
 
 // "its step limit, steps used and last stop"
 #[repr(C)]
-#[derive(Drop)]
+#[derive(Clone, Copy)]
 pub struct Seat {
     pub limit: u64,
     pub used: u64,
@@ -15,7 +15,7 @@ pub struct Seat {
 
 // The call's answer. seat: the one that a refusal is about, from 1, or 0.
 #[repr(C)]
-#[derive(Drop)]
+#[derive(Clone, Copy)]
 pub struct Benched {
     pub refusal: u64,
     pub place: u64,

@@ -28,7 +28,7 @@ use Rattle.definition.proofs.Total.{total-plain, total-assoc}
 use Rattle.definition.proofs.Accepted.{OutcomeHas, Stepped, step-accepted, uncounted-in, run-most}
 use Rattle.definition.proofs.Budgets.{later-zero}
 use Rattle.memory.proofs.Laws.{over_none}
-use Rattle.registers.specs.Meaning.{result, settled}
+use Rattle.registers.specs.Meaning.{res_of, settled}
 use Rattle.stores.specs.declared.Made.{Made}
 use Rattle.stores.specs.Meaning.{planned, core_of, made, unwritten}
 use Rattle.encoding.specs.Meaning.{instr_of}
@@ -60,7 +60,7 @@ attempt-is g l s f h = at f.ok ∙ ap then h.is
     then : Res Instruction → Res Executed
     then r = and_then r (λ (i : Instruction). (λ (c : Core). and_then (execute g i.op i.x i.y i.r₁ i.r₂ c) (λ (q : Request). return (record { cost = i.cycles; request = q }))))
 
-    at : (b : Bool) → attempted f.i.cost (cond b (executed_at g l f.s f.i) (err f.error (core l f.s))) ≡ then (result (instr_of f.i) b f.error (core l f.s))
+    at : (b : Bool) → attempted f.i.cost (cond b (executed_at g l f.s f.i) (err f.error (core l f.s))) ≡ then (res_of (instr_of f.i) b f.error (core l f.s))
     at true = sym (attempted-is f.i.cost (executed_at g l f.s f.i))
     at false = refl
 
@@ -175,7 +175,7 @@ module _ (l : List ℤ) (q o : List ℕ) (m : State) (f : Fetched) (h : Fetches 
       sym (limit-below before (M.completed after) (omega arith))
       ∙ ap (λ (x : M.Turn). M.limit before (M.settle x)) (poll-quiet after p.0 p.1)
       ∙ ap (λ (x : Timer). M.limit before (M.settle (M.poll (with_timer x after)))) (sym (tick-off f.i.cost m.timer (eqb-true _ _ p.2)))
-      ∙ ap (λ (b : Bool). M.limit before (M.settle (concluded_by false f.i.cost (effects_at l q o m.fence m.cycles (unsent d.p m.k m.timer)) (result tt b d.error (core_of l d.p))))) (sym ok-is)
+      ∙ ap (λ (b : Bool). M.limit before (M.settle (concluded_by false f.i.cost (effects_at l q o m.fence m.cycles (unsent d.p m.k m.timer)) (res_of tt b d.error (core_of l d.p))))) (sym ok-is)
       ∙ ap (λ (x : M.Turn). M.limit before (M.settle x)) (turn_is _ v)
     where
       quiet-parts : (a b c d : Bool) → (not a && (not b && (c && d))) ≡ true → (a ≡ false) × (b ≡ false) × (c ≡ true) × (d ≡ true)

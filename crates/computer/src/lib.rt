@@ -14,7 +14,7 @@ use runtime::{State, Stepped};
 const BUDGET_SPENT: u32 = 0;
 
 // Where a run got.
-#[derive(Drop)]
+#[derive(Clone, Copy)]
 pub struct Ended {
     pub stop: u32,
     pub detail: u32,
@@ -73,7 +73,8 @@ fn completes(s: Registers, cycles: u64, k: ConsoleState, fence: u32, timer: Time
 // `saved` is m wherever stop 7 could come. An instruction that leaves nothing else to do is the usual case, and is written at once; without
 // a cell to write nothing is (docs/SPEED.md).
 pub fn step(cells: &mut [i64], queue: &[u8], output: &mut [u8], saved: State, m: State) -> Stepped
-    requires* { do ⌜ AcceptedMachine (machine_at cells.old queue.now output.old m) ⌝; ⌜ (NEAR ≤ m.cycles → saved ≡ m) ⌝ }
+    requires accepted { AcceptedMachine (machine_at cells.old queue.now output.old m) }
+    requires near { NEAR ≤ m.cycles → saved ≡ m }
     ensures { stepped_of cells.new queue.now output.new result ≡ step (machine_at cells.old queue.now output.old m) }
 {
     let guard = runtime::guard(m);
@@ -146,7 +147,7 @@ fn summed(empty: u64, counted: u64) -> u64
 
 // Computer::run, on a budget. A step that stops counts nothing.
 pub fn run(cells: &mut [i64], queue: &[u8], output: &mut [u8], m: State, budget: u64) -> Ended
-    requires* { do ⌜ AcceptedMachine (machine_at cells.old queue.now output.old m) ⌝ }
+    requires { AcceptedMachine (machine_at cells.old queue.now output.old m) }
     ensures { ended_of cells.new queue.now output.new result ≡ run budget (machine_at cells.old queue.now output.old m) }
 {
     let mut saved = m;

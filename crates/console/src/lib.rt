@@ -6,7 +6,7 @@ ghost use Rattle.console.specs.Meaning.{console_of, Sends};
 use definition::Marks;
 
 // The console without its bytes.
-#[derive(Drop)]
+#[derive(Clone, Copy)]
 pub struct ConsoleState {
     pub marks: Marks,
     pub start: usize,
@@ -15,14 +15,14 @@ pub struct ConsoleState {
 }
 
 // What a port reads, and the console afterwards.
-#[derive(Drop)]
+#[derive(Clone, Copy)]
 pub struct Received {
     pub value: u8,
     pub k: ConsoleState,
 }
 
 // The console after a write to a port, and the byte, if one goes out.
-#[derive(Drop)]
+#[derive(Clone, Copy)]
 pub struct Sent {
     pub k: ConsoleState,
     pub sends: bool,

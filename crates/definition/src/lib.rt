@@ -2,7 +2,7 @@
 pub mod places;
 
 // Three numbers (document 01, "Cells and row"): empty is 0,0,0, word w is 1,w,0, an instruction has a tag of 2 or more.
-#[derive(Drop)]
+#[derive(Clone, Copy)]
 pub struct Cell {
     pub tag: i64,
     pub first: i64,
@@ -10,7 +10,7 @@ pub struct Cell {
 }
 
 // The five registers, as in registers.rs, and beside them the count of empty reads of the step that is under way.
-#[derive(Drop)]
+#[derive(Clone, Copy)]
 pub struct Registers {
     pub a: Cell,
     pub b: Cell,
@@ -22,7 +22,7 @@ pub struct Registers {
 }
 
 // The console's three marks (document 01's word): in io.rs irq_on_ready, interrupt_flag and pending_irq.
-#[derive(Drop)]
+#[derive(Clone, Copy)]
 pub struct Marks {
     pub enable: bool,
     pub flag: bool,
@@ -30,7 +30,7 @@ pub struct Marks {
 }
 
 // The timer: its interval, 0 where it is off, what remains of it, and its mark. Both numbers are below 2^63.
-#[derive(Drop)]
+#[derive(Clone, Copy)]
 pub struct Timer {
     pub interval: u64,
     pub remaining: u64,
@@ -38,7 +38,7 @@ pub struct Timer {
 }
 
 // The word that a cell gives, if it does. Empty reads as word 0, and is told apart.
-#[derive(Drop)]
+#[derive(Clone, Copy)]
 pub enum Word {
     Is(i64),
     Empty,
@@ -46,21 +46,21 @@ pub enum Word {
 }
 
 // The address that a word is, if it is one.
-#[derive(Drop)]
+#[derive(Clone, Copy)]
 pub enum Address {
     At(u32),
     NotAddress,
 }
 
 // The cell at an address, if the address is inside the cells.
-#[derive(Drop)]
+#[derive(Clone, Copy)]
 pub enum Found {
     Here(Cell),
     Outside,
 }
 
 // The cell that an operand gives. Where it gives none, its address is outside the cells, or it has no address.
-#[derive(Drop)]
+#[derive(Clone, Copy)]
 pub enum Given {
     Gives(Cell),
     OutsideCells,
@@ -68,21 +68,21 @@ pub enum Given {
 }
 
 // A result wrapped at 64 bits, and whether it had to be.
-#[derive(Drop)]
+#[derive(Clone, Copy)]
 pub struct Wrapped {
     pub value: i64,
     pub overflow: bool,
 }
 
 // A quotient, if there is one.
-#[derive(Drop)]
+#[derive(Clone, Copy)]
 pub enum Quotient {
     Rounded(i64),
     NoQuotient,
 }
 
 // What ends an instruction early: `ProcessorError` of mod.rs, its exceptions and its registers spelled out.
-#[derive(Drop)]
+#[derive(Clone, Copy)]
 pub enum Error {
     DivByZero,
     InvalidInstruction,
@@ -99,14 +99,14 @@ pub enum Error {
 
 // The answers of the calls. A refusal of 0 says that the call was done; the other fields are 0 where it was refused.
 #[repr(C)]
-#[derive(Drop)]
+#[derive(Clone, Copy)]
 pub struct Done {
     pub refusal: u64,
     pub place: u64,
 }
 
 #[repr(C)]
-#[derive(Drop)]
+#[derive(Clone, Copy)]
 pub struct Ran {
     pub refusal: u64,
     pub place: u64,
@@ -117,7 +117,7 @@ pub struct Ran {
 }
 
 #[repr(C)]
-#[derive(Drop)]
+#[derive(Clone, Copy)]
 pub struct Drained {
     pub refusal: u64,
     pub place: u64,
@@ -126,7 +126,7 @@ pub struct Drained {
 
 // Of the calls that write as much as there is: how much they wrote.
 #[repr(C)]
-#[derive(Drop)]
+#[derive(Clone, Copy)]
 pub struct Counted {
     pub refusal: u64,
     pub place: u64,
@@ -134,7 +134,7 @@ pub struct Counted {
 }
 
 #[repr(C)]
-#[derive(Drop)]
+#[derive(Clone, Copy)]
 pub struct CellRead {
     pub refusal: u64,
     pub place: u64,
@@ -144,7 +144,7 @@ pub struct CellRead {
 }
 
 #[repr(C)]
-#[derive(Drop)]
+#[derive(Clone, Copy)]
 pub struct Raised {
     pub refusal: u64,
     pub place: u64,

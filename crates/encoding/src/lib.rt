@@ -12,7 +12,7 @@ use arguments::Arg;
 use definition::Cell;
 
 // An instruction as it is executed.
-#[derive(Drop)]
+#[derive(Clone, Copy)]
 pub struct Instr {
     pub op: u32,
     pub cost: u64,

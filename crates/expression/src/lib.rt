@@ -11,7 +11,7 @@ use definition::Wrapped;
 use table::Found;
 
 // A value, whether a label that it needs is missing, and whether it or a part of it is outside 64 bits.
-#[derive(Drop)]
+#[derive(Clone, Copy)]
 pub struct Value {
     pub value: i64,
     pub missing: bool,
@@ -19,14 +19,14 @@ pub struct Value {
 }
 
 // A value and the place after it, or nothing.
-#[derive(Drop)]
+#[derive(Clone, Copy)]
 pub enum Reading {
     Is(Value, usize),
     Not,
 }
 
 // The magnitude of a run of digits, at most 2^63 + 1, and the place after it.
-#[derive(Drop)]
+#[derive(Clone, Copy)]
 pub struct Run {
     pub size: u64,
     pub at: usize,

@@ -6,7 +6,7 @@ ghost use Rattle.expression.specs.Table.{name_at, is_labelled, sets, is_inner, n
 
 use super::{is_letter, peek, skip_letters, skip_spaces};
 
-#[derive(Drop)]
+#[derive(Clone, Copy)]
 pub enum Found {
     At(usize),
     Nowhere,

@@ -10,7 +10,7 @@ use definition::{Ran, places};
 use lines::Start;
 
 // How much is to be printed on standard output and on standard error.
-#[derive(Drop)]
+#[derive(Clone, Copy)]
 pub struct Lengths {
     pub out: usize,
     pub err: usize,

@@ -19,7 +19,7 @@ use Rattle.definition.specs.Exec.{Core, Res, Exec, core, ok, err, and_then, ◌>
 use Rattle.definition.specs.Encoding.{op_at}
 use Rattle.definition.specs.Instructions.{execute, jump, jump_if, reset, nothing, quiet}
 use Rattle.registers.specs.declared.Put.{Put}
-use Rattle.registers.specs.Meaning.{settled, result, answer, put_res}
+use Rattle.registers.specs.Meaning.{settled, res_of, answer, put_res}
 use Rattle.word.proofs.Arms.{Skips, past, under}
 use Rattle.arguments.specs.declared.Arg.{Arg}
 use Rattle.arguments.specs.Operands.{arg_of}
@@ -33,7 +33,7 @@ use Rattle.instructions.specs.Jumps.{test_at}
 use Rattle.instructions.specs.Meaning.{asker}
 
 -- a quiet instruction asks for nothing
-quiet_is : (m : Exec (Unit {0})) (c c' : Core) (b : Bool) (e : Error) → result tt b e c' ≡ m c → result nothing b e c' ≡ quiet m c
+quiet_is : (m : Exec (Unit {0})) (c c' : Core) (b : Bool) (e : Error) → res_of tt b e c' ≡ m c → res_of nothing b e c' ≡ quiet m c
 unfolding quiet and_then
 quiet_is m c c' true e h = rw (← h)
 quiet_is m c c' false e h = rw (← h)
@@ -117,7 +117,7 @@ module _ (g : ℕ) (x y : Arg) (l : List ℤ) (s : Registers) (o k : ℕ) (e : o
   arm-none h q z p = quiet_none l (core l s) m h q z p ∙ arm_is
 
 -- a value under f
-pub then-return : {X Y : Type 0} {m : Res X} (f : X → Y) (v : X) (b : Bool) (e : Error) (c : Core) → result v b e c ≡ m → result (f v) b e c ≡ and_then m (λ v. return (f v))
+pub then-return : {X Y : Type 0} {m : Res X} (f : X → Y) (v : X) (b : Bool) (e : Error) (c : Core) → res_of v b e c ≡ m → res_of (f v) b e c ≡ and_then m (λ v. return (f v))
 unfolding and_then
 then-return f v true e c h = rw (← h)
 then-return f v false e c h = rw (← h)
@@ -144,7 +144,7 @@ abbrev Is-cell : List ℤ → Res Cell → Type 0
 Is-cell l m = cell_res l (took_cell m) ≡ m
 
 module _ (l : List ℤ) (s : Registers) where
-  pop_next : (n : ℕ) (b : Bool) (v : Cell) (e : Error) (t : Registers) → Is-cell l (and_then (result v b e (core l t)) (moved n))
+  pop_next : (n : ℕ) (b : Bool) (v : Cell) (e : Error) (t : Registers) → Is-cell l (and_then (res_of v b e (core l t)) (moved n))
   unfolding and_then
   pop_next n true v e t = refl
   pop_next n false v e t = refl

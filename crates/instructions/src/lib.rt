@@ -6,7 +6,7 @@ ghost use Rattle.definition.specs.Registers.{reg_at};
 ghost use Rattle.definition.specs.Exec.{core};
 ghost use Rattle.definition.specs.Encoding.{op_at};
 ghost use Rattle.definition.specs.Instructions.{execute, nothing, reads, writes, in_op, out_op};
-ghost use Rattle.registers.specs.Meaning.{result};
+ghost use Rattle.registers.specs.Meaning.{res_of};
 ghost use Rattle.arguments.specs.Operands.{arg_of};
 ghost use Rattle.stores.specs.Meaning.{made};
 ghost use Rattle.instructions.specs.Meaning.{asker};
@@ -19,7 +19,7 @@ pub mod jumps;
 pub mod moves;
 
 // What `in` and `out` ask of the console: the port, and the word to write there (for `in` it is 0); and the registers as they are left.
-#[derive(Drop)]
+#[derive(Clone, Copy)]
 pub struct Asked {
     pub ok: bool,
     pub error: Error,
@@ -30,7 +30,7 @@ pub struct Asked {
 
 // Does the operation ask the console: in and out?
 pub fn is_asker(op: u32) -> bool
-    ensures* { λ r. ⌜ r ≡ asker op ⌝ }
+    ensures { result ≡ asker op }
 {
     (op == 6) | (op == 20)
 }
@@ -38,8 +38,8 @@ pub fn is_asker(op: u32) -> bool
 // Instruction::execute for every operation but in and out. One flat match, so that it compiles to one jump table; what it leaves
 // to its last arm are the seven jumps.
 pub fn execute(cells: &[i64], guard: u32, s: Registers, op: u32, x: Arg, y: Arg) -> Made
-    requires* { do ⌜ (cell_count cells.now ≤ CELLS-MOST) × ((asker op ≡ false) × (op < 33)) ⌝ }
-    ensures* { λ d. ⌜ made nothing cells.now d ≡ execute guard (op_at op) (arg_of x) (arg_of y) (reg_at x.reg) (reg_at y.reg) (core cells.now s) ⌝ }
+    requires { (cell_count cells.now ≤ CELLS-MOST) × ((asker op ≡ false) × (op < 33)) }
+    ensures { made nothing cells.now result ≡ execute guard (op_at op) (arg_of x) (arg_of y) (reg_at x.reg) (reg_at y.reg) (core cells.now s) }
 {
     match op {
         0 => stores::with_none(operations::words::add(cells, s, x, y.reg)),
@@ -76,7 +76,7 @@ pub fn execute(cells: &[i64], guard: u32, s: Registers, op: u32, x: Arg, y: Arg)
 }
 
 fn not_asked(s: Registers, error: Error) -> Asked
-    ensures* { λ q. ⌜ q ≡ record { ok = false; error = error; port = 0; w = pos 0; s = s } ⌝ }
+    ensures { result ≡ record { ok = false; error = error; port = 0; w = pos 0; s = s } }
 {
     Asked {
         ok: false,
@@ -89,7 +89,7 @@ fn not_asked(s: Registers, error: Error) -> Asked
 
 // in: the port is known, what is read there is the console's.
 pub fn in_request(s: Registers, x: Arg, r: u32) -> Asked
-    ensures* { λ q. ⌜ ((l : List ℤ) → result (reads q.port (reg_at r)) q.ok q.error (core l q.s) ≡ in_op (arg_of x) (reg_at r) (core l s)) ⌝ }
+    ensures { (l : List ℤ) → res_of (reads result.port (reg_at r)) result.ok result.error (core l result.s) ≡ in_op (arg_of x) (reg_at r) (core l s) }
 {
     if registers::supervisor(s) {
         let port = arguments::address_of(s, x);
@@ -108,7 +108,7 @@ pub fn in_request(s: Registers, x: Arg, r: u32) -> Asked
 
 // out: the word, then the port.
 pub fn out_request(cells: &[i64], s: Registers, x: Arg, y: Arg) -> Asked
-    ensures* { λ q. ⌜ result (writes q.port q.w) q.ok q.error (core cells.now q.s) ≡ out_op (arg_of x) (arg_of y) (core cells.now s) ⌝ }
+    ensures { res_of (writes result.port result.w) result.ok result.error (core cells.now result.s) ≡ out_op (arg_of x) (arg_of y) (core cells.now s) }
 {
     if registers::supervisor(s) {
         let given = arguments::word_of(cells, s, x);

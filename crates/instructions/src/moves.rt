@@ -30,7 +30,7 @@ pub fn ld(cells: &[i64], s: Registers, x: Arg, r: u32) -> Put
 
 // Computer::pop: "pop and rtn read at sp (outside: code 5, sp unmoved), then move sp, and only then test the value or set the register."
 fn pop_cell(cells: &[i64], s: Registers) -> CellTaken
-    requires* { do ⌜ cell_count cells.now ≤ CELLS-MOST ⌝ }
+    requires { cell_count cells.now ≤ CELLS-MOST }
     ensures { result ≡ took_cell (pop (core cells.now s)) }
 {
     let sp = s.sp;
@@ -50,7 +50,7 @@ fn pop_cell(cells: &[i64], s: Registers) -> CellTaken
 }
 
 pub fn pop(cells: &[i64], s: Registers, r: u32) -> Put
-    requires* { do ⌜ cell_count cells.now ≤ CELLS-MOST ⌝ }
+    requires { cell_count cells.now ≤ CELLS-MOST }
     ensures { put_res cells.now result ≡ pop_op (reg_at r) (core cells.now s) }
 {
     let top = pop_cell(cells, s);
@@ -69,7 +69,7 @@ pub fn pop(cells: &[i64], s: Registers, r: u32) -> Put
 }
 
 pub fn rtn(cells: &[i64], s: Registers) -> Put
-    requires* { do ⌜ cell_count cells.now ≤ CELLS-MOST ⌝ }
+    requires { cell_count cells.now ≤ CELLS-MOST }
     ensures { put_res cells.now result ≡ rtn (core cells.now s) }
 {
     super::jumps::jump_to(taken::address_in(pop_cell(cells, s), Error::CellError))

@@ -6,7 +6,7 @@ pub mod operands;
 use expression::Value;
 
 // An operand by its mode, 0 to 5, with the register and the value of that mode.
-#[derive(Drop)]
+#[derive(Clone, Copy)]
 pub struct Arg {
     pub mode: u32,
     pub reg: u32,
@@ -14,7 +14,7 @@ pub struct Arg {
 }
 
 // What stands in a cell: an operation, or with 33 the value of x.
-#[derive(Drop)]
+#[derive(Clone, Copy)]
 pub struct Body {
     pub op: u32,
     pub x: Arg,
@@ -22,7 +22,7 @@ pub struct Body {
 }
 
 // A line, and where its label stands if it has one.
-#[derive(Drop)]
+#[derive(Clone, Copy)]
 pub struct Line {
     pub labelled: bool,
     pub name: usize,
@@ -30,25 +30,25 @@ pub struct Line {
 }
 
 // What was read and the place after it, or nothing.
-#[derive(Drop)]
+#[derive(Clone, Copy)]
 pub enum RegisterRead {
     Is(u32, usize),
     Not,
 }
 
-#[derive(Drop)]
+#[derive(Clone, Copy)]
 pub enum ArgRead {
     Is(Arg, usize),
     Not,
 }
 
-#[derive(Drop)]
+#[derive(Clone, Copy)]
 pub enum BodyRead {
     Is(Body, usize),
     Not,
 }
 
-#[derive(Drop)]
+#[derive(Clone, Copy)]
 pub enum LineRead {
     Is(Line, usize),
     Not,

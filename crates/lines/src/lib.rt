@@ -7,7 +7,7 @@ ghost use Rattle.std.specs.Prelude.{◌≡◌, ◌<◌, length};
 ghost use Rattle.lines.specs.Reader.{opened, empty_cells, value_of, broken, with_field, letter, opening_byte, digit, comma, minus, within, broken_line};
 
 // The field that is being read: an optional minus and the digits so far.
-#[derive(Drop)]
+#[derive(Clone, Copy)]
 pub struct Field {
     pub minus: bool,
     pub digits: bool,
@@ -15,7 +15,7 @@ pub struct Field {
 }
 
 // The last three whole fields of the line.
-#[derive(Drop)]
+#[derive(Clone, Copy)]
 pub struct Fields {
     pub x: i64,
     pub y: i64,
@@ -23,7 +23,7 @@ pub struct Fields {
 }
 
 // What the first line says.
-#[derive(Drop)]
+#[derive(Clone, Copy)]
 pub struct Start {
     pub pc: i64,
     pub sp: i64,
@@ -31,7 +31,7 @@ pub struct Start {
 }
 
 // What is known of a text so far. Once broken, it stays at the line that broke.
-#[derive(Drop)]
+#[derive(Clone, Copy)]
 pub struct Reader {
     pub line: u64,
     pub broken: bool,

@@ -12,14 +12,14 @@ use libc::{STDIN_FILENO, STDOUT_FILENO};
 use names::Progress;
 
 // What is known after the whole input, or after the first broken line; `failed` where the input could not be read.
-#[derive(Drop)]
+#[derive(Clone, Copy)]
 struct Input {
     failed: bool,
     progress: Progress,
 }
 
 // One read more.
-#[derive(Drop)]
+#[derive(Clone, Copy)]
 struct Turn {
     ended: bool,
     failed: bool,
@@ -27,7 +27,7 @@ struct Turn {
 }
 
 // How much is to be printed; `failed` as in Input.
-#[derive(Drop)]
+#[derive(Clone, Copy)]
 struct Put {
     failed: bool,
     length: usize,

@@ -7,7 +7,7 @@ ghost use Rattle.lister.specs.Output.{seen, names_cell, larger, named_after, see
 use lines::Reader;
 
 // What is known so far: the reader, and one more than the highest address that a line named.
-#[derive(Drop)]
+#[derive(Clone, Copy)]
 pub struct Progress {
     pub reader: Reader,
     pub named: u64,

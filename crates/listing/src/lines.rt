@@ -9,7 +9,7 @@ ghost use Rattle.listing.specs.Pieces.{fitted};
 use super::line::put_line;
 
 // Whether a text fits into some room, and if so its bytes.
-#[derive(Drop)]
+#[derive(Clone, Copy)]
 pub struct Fit {
     pub fits: bool,
     pub bytes: usize,

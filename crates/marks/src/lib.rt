@@ -87,7 +87,7 @@ pub fn taken(marks: Marks) -> Marks
 }
 
 // What io.rs's methods do to the marks, with what they are passed.
-#[derive(Drop)]
+#[derive(Clone, Copy)]
 pub enum Change {
     ReadStatus,
     WriteControl(bool, i64),
@@ -123,14 +123,14 @@ pub fn after_change(marks: Marks, c: Change) -> Marks
 }
 
 // What a read of port 110 gives, and the marks after it.
-#[derive(Drop)]
+#[derive(Clone, Copy)]
 pub struct StatusRead {
     pub value: u8,
     pub marks: Marks,
 }
 
 // Was the pending mark set, and the marks once it is taken.
-#[derive(Drop)]
+#[derive(Clone, Copy)]
 pub struct Polled {
     pub was: bool,
     pub marks: Marks,

@@ -9,7 +9,7 @@ use definition::{Address, Cell, Found, Word};
 pub const NO_CELL: u32 = 4294967295;
 
 pub fn get_cell(cells: &[i64], n: usize) -> Cell
-    requires* { do ⌜ n < cell_count cells.now ⌝ }
+    requires { n < cell_count cells.now }
     ensures { result ≡ cell_at cells.now n }
 {
     let i = 3 * n;
@@ -48,7 +48,7 @@ pub fn read_over(cells: &[i64], at: u32, v: Cell, n: u32) -> Found
 
 // Memory::set
 pub fn put_cell(cells: &mut [i64], n: usize, v: Cell)
-    requires* { do ⌜ n < cell_count cells.old ⌝ }
+    requires { n < cell_count cells.old }
     ensures { cells.new ≡ put_cell cells.old n v }
 {
     let i = 3 * n;

@@ -25,7 +25,7 @@ use Rattle.definition.specs.Runtime.{Machine, with_core, with_mark, with_timer, 
 use Rattle.definition.proofs.Cells.{cell_same, cell_other}
 use Rattle.memory.specs.Overlay.{overlay, NO-CELL}
 use Rattle.memory.proofs.Laws.{over-in}
-use Rattle.registers.specs.Meaning.{result}
+use Rattle.registers.specs.Meaning.{res_of}
 use Rattle.stores.specs.Meaning.{planned}
 use Rattle.encoding.specs.Meaning.{instr_of}
 use Rattle.runtime.specs.declared.State.{State}
@@ -79,7 +79,7 @@ fetched-writes g l s f h = at f.ok ∙ ap (λ (r : Res Instruction). wrote_there
     then : Res Instruction → Res ℕ
     then r = and_then r (λ (i : Instruction). aim i.op i.x i.y i.r₁ i.r₂)
 
-    at : (b : Bool) → cond b (wrote_there g l (aim (instr_of f.i).op (instr_of f.i).x (instr_of f.i).y (instr_of f.i).r₁ (instr_of f.i).r₂ (core l f.s))) [] ≡ wrote_there g l (then (result (instr_of f.i) b f.error (core l f.s)))
+    at : (b : Bool) → cond b (wrote_there g l (aim (instr_of f.i).op (instr_of f.i).x (instr_of f.i).y (instr_of f.i).r₁ (instr_of f.i).r₂ (core l f.s))) [] ≡ wrote_there g l (then (res_of (instr_of f.i) b f.error (core l f.s)))
     at true = refl
     at false = refl
 

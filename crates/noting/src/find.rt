@@ -21,7 +21,7 @@ use runtime::perform::Served;
 
 // The cell at n once the write that waits is made: v at `at`.
 fn cell_over(cells: &[i64], at: u32, v: Cell, n: u32) -> Cell
-    requires* { do ⌜ n < cell_count cells.now ⌝ }
+    requires { n < cell_count cells.now }
     ensures { result ≡ cell_at (overlay at v cells.now) n }
 {
     if at == n {
@@ -31,7 +31,7 @@ fn cell_over(cells: &[i64], at: u32, v: Cell, n: u32) -> Cell
 }
 
 fn was_over(cells: &[i64], at: u32, v: Cell, n: u32) -> Was
-    requires* { do ⌜ n < cell_count cells.now ⌝ }
+    requires { n < cell_count cells.now }
     ensures { held_of result ≡ held_at (overlay at v cells.now) n }
 {
     let cell = cell_over(cells, at, v, n);
@@ -68,7 +68,7 @@ fn no_entry() -> Entry
 
 // "pc, sr and code go to cells 100, 101, 102", after the instruction's own write.
 fn entry_cells(cells: &[i64], a: Arrival) -> Entry
-    requires* { do ⌜ 256 ≤ cell_count cells.now ⌝ }
+    requires { 256 ≤ cell_count cells.now }
     ensures { (entry_of result ≡ entry_from cells.now a) × (result.enters ≡ enters_from cells.now a) }
 {
     let f = a.f;
@@ -98,7 +98,7 @@ fn fits(cycles: u64, enters: bool) -> bool
 
 // Where the fetched instruction writes, NO_CELL where it writes none.
 fn writes_at(cells: &[i64], guard: u32, f: Fetched) -> u32
-    requires* { do ⌜ (cell_count cells.now ≤ CELLS-MOST) × (f.i.op < 33) ⌝ }
+    requires { (cell_count cells.now ≤ CELLS-MOST) × (f.i.op < 33) }
     ensures { written_at cells.now result ≡ fetched_writes guard cells.now f }
 {
     if f.ok {
@@ -113,7 +113,9 @@ fn writes_at(cells: &[i64], guard: u32, f: Fetched) -> u32
 
 // The fetched instruction executed, with the console's part.
 fn serve(cells: &[i64], queue: &[u8], size: usize, m: State, f: Fetched) -> Served
-    requires* { do ⌜ (cell_count cells.now ≤ CELLS-MOST) × ((m.k.start < length queue.now) × (m.k.written ≤ 65536)) ⌝; ⌜ TimerIn m.timer ⌝; ⌜ f.i.op < 33 ⌝ }
+    requires sized { (cell_count cells.now ≤ CELLS-MOST) × ((m.k.start < length queue.now) × (m.k.written ≤ 65536)) }
+    requires timer { TimerIn m.timer }
+    requires op { f.i.op < 33 }
     ensures { Serves cells.now queue.now size m.k m.timer f.i.cost (fetched_request (guard_of m) cells.now f) result }
 {
     let k = m.k;
@@ -142,7 +144,7 @@ fn serve(cells: &[i64], queue: &[u8], size: usize, m: State, f: Fetched) -> Serv
 
 // What the step from m is about to write, and whether it begins.
 pub fn notes(cells: &[i64], queue: &[u8], output: &[u8], m: State) -> Noted
-    requires* { do ⌜ AcceptedMachine (machine_at cells.now queue.now output.now m) ⌝ }
+    requires { AcceptedMachine (machine_at cells.now queue.now output.now m) }
     ensures { (helds_of result ≡ step_writes (machine_at cells.now queue.now output.now m)) × (result.begun ≡ begun (step (machine_at cells.now queue.now output.now m))) }
 {
     let s = m.s;

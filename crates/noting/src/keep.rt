@@ -31,7 +31,8 @@ fn remember(journal: &mut [i64], m: State, w: Noted)
 
 // "keeps, for every step begun, the row before and what the cells it wrote held"
 pub fn note(journal: &mut [i64], cells: &[i64], queue: &[u8], output: &[u8], m: State)
-    requires* { do ⌜ AcceptedMachine (machine_at cells.now queue.now output.now m) ⌝; ⌜ is_journal journal.old ≡ true ⌝ }
+    requires accepted { AcceptedMachine (machine_at cells.now queue.now output.now m) }
+    requires journal { is_journal journal.old ≡ true }
     ensures { journal.new ≡ noted (machine_at cells.now queue.now output.now m) journal.old }
 {
     let w = super::find::notes(cells, queue, output, m);

@@ -11,21 +11,21 @@ pub mod find;
 pub mod keep;
 
 // A cell about to be written: its address, and what it holds.
-#[derive(Drop)]
+#[derive(Clone, Copy)]
 pub struct Was {
     pub address: u32,
     pub cell: Cell,
 }
 
 // The cell that the instruction writes, if it does; else `was` is a filler.
-#[derive(Drop)]
+#[derive(Clone, Copy)]
 pub struct Own {
     pub writes: bool,
     pub was: Was,
 }
 
 // The three cells of exception entry, if a handler is entered; else they are fillers.
-#[derive(Drop)]
+#[derive(Clone, Copy)]
 pub struct Entry {
     pub enters: bool,
     pub pc: Was,
@@ -34,7 +34,7 @@ pub struct Entry {
 }
 
 // Was the step begun, and what it writes.
-#[derive(Drop)]
+#[derive(Clone, Copy)]
 pub struct Noted {
     pub begun: bool,
     pub own: Own,
@@ -42,7 +42,7 @@ pub struct Noted {
 }
 
 // "the number of cells and four times address and cell in order of writing, unused ones 0"
-#[derive(Drop)]
+#[derive(Clone, Copy)]
 pub struct Four {
     pub count: i64,
     pub a: Was,

@@ -14,7 +14,7 @@ use Rattle.definition.specs.Arguments.{Operand}
 use Rattle.definition.specs.Exec.{Res, Exec, core, ok, err, and_then, ◌>>=◌, return, take_word, assign}
 use Rattle.definition.specs.Instructions.{and_flags, put_result, put_shifted, cell_of, word_of, register_word, words}
 use Rattle.registers.specs.declared.Put.{Put}
-use Rattle.registers.specs.Meaning.{settled, result, put_res}
+use Rattle.registers.specs.Meaning.{settled, res_of, put_res}
 use Rattle.registers.proofs.Laws.{settled_is, then_ok, then-err}
 use Rattle.arguments.specs.declared.taken.WordTaken.{WordTaken}
 use Rattle.arguments.specs.declared.taken.CellTaken.{CellTaken}
@@ -66,12 +66,12 @@ abbrev Is-two : List ℤ → Res (ℤ × ℤ) → Type 0
 Is-two l m = two_res l (took_two m) ≡ m
 
 module _ (l : List ℤ) (r : Reg) where
-  two-second : (v : ℤ) (b : Bool) (w : ℤ) (e : Error) (s : Registers) → Is-two l (and_then (result w b e (core l s)) (pair v))
+  two-second : (v : ℤ) (b : Bool) (w : ℤ) (e : Error) (s : Registers) → Is-two l (and_then (res_of w b e (core l s)) (pair v))
   unfolding and_then
   two-second v true w e s = refl
   two-second v false w e s = refl
 
-  two-first : (b : Bool) (v : ℤ) (e : Error) (s : Registers) → Is-two l (and_then (result v b e (core l s)) (second r))
+  two-first : (b : Bool) (v : ℤ) (e : Error) (s : Registers) → Is-two l (and_then (res_of v b e (core l s)) (second r))
   unfolding and_then
   two-first true v e s =
       let t = took_word (register_word r (core l s)) in

@@ -6,7 +6,7 @@ use Rattle.definition.specs.Word.{shl_w, shr_w}
 use Rattle.definition.specs.Registers.{Reg}
 use Rattle.definition.specs.Exec.{Core, Res, Exec, ok, err, core, and_then, ◌>>=◌, return, take_word}
 use Rattle.definition.specs.Instructions.{register_word}
-use Rattle.registers.specs.Meaning.{result}
+use Rattle.registers.specs.Meaning.{res_of}
 use Rattle.operations.specs.declared.Two.{Two}
 
 -- The word of the operand's cell, once that is taken, then the register's.
@@ -19,7 +19,7 @@ took_two (ok p c) = record { ok = true; error = Reset; v = p.0; w = p.1; s = c.r
 took_two (err e c) = record { ok = false; error = e; v = pos 0; w = pos 0; s = c.regs }
 
 abbrev pub two_res : List ℤ → Two → Res (ℤ × ℤ)
-two_res l t = result (t.v, t.w) t.ok t.error (core l t.s)
+two_res l t = res_of (t.v, t.w) t.ok t.error (core l t.s)
 
 -- shl or shr
 abbrev pub shift_w : Bool → ℤ → ℕ → ℤ

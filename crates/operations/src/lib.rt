@@ -14,7 +14,7 @@ use registers::Put;
 pub mod words;
 
 // Two words, or an error, and the registers as they are left. Where ok, `error` is a filler; else the words are.
-#[derive(Drop)]
+#[derive(Clone, Copy)]
 pub struct Two {
     pub ok: bool,
     pub error: Error,

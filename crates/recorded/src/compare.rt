@@ -4,7 +4,7 @@ ghost use Rattle.definition.specs.Calls.{lent};
 ghost use Rattle.recorded.specs.Compare.{Exactly, answer_fault, left_fault};
 
 // What is not as the list says.
-#[derive(Drop)]
+#[derive(Clone, Copy)]
 pub enum Fault {
     Nothing,
     // The list breaks its form.
@@ -28,7 +28,7 @@ pub enum Fault {
 }
 
 // Numbers that a call does not give are 0; count is steps or drained bytes, empty the words that a run took from empty cells.
-#[derive(Drop)]
+#[derive(Clone, Copy)]
 pub struct Answer {
     pub refusal: u64,
     pub place: u64,

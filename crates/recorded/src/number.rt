@@ -3,20 +3,20 @@ ghost use Rattle.std.specs.Prelude.{◌≡◌, ◌<◌};
 ghost use Rattle.recorded.specs.Reader.{no_number, minus_read, digit_read, grown, value_of};
 
 // What was read of a number.
-#[derive(Drop)]
+#[derive(Clone, Copy)]
 pub struct Number {
     pub minus: bool,
     pub digits: bool,
     pub size: u64,
 }
 
-#[derive(Drop)]
+#[derive(Clone, Copy)]
 pub enum Grown {
     Is(Number),
     Not,
 }
 
-#[derive(Drop)]
+#[derive(Clone, Copy)]
 pub enum Value {
     Is(i64),
     Not,

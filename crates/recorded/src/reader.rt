@@ -4,7 +4,7 @@ ghost use Rattle.recorded.specs.Reader.{no_line, pushed as Reader·pushed, numbe
 
 use super::number::{Grown, Number, Value, grow, none_read, value_of};
 
-#[derive(Drop)]
+#[derive(Clone, Copy)]
 pub struct Line {
     pub kind: i64,
     pub a: i64,
@@ -14,14 +14,14 @@ pub struct Line {
 }
 
 // What was read of a line: its whole numbers, how many they are, and the one that is being read.
-#[derive(Drop)]
+#[derive(Clone, Copy)]
 pub struct Reader {
     pub line: Line,
     pub whole: u32,
     pub number: Number,
 }
 
-#[derive(Drop)]
+#[derive(Clone, Copy)]
 pub enum Fed {
     More(Reader),
     Whole(Line),

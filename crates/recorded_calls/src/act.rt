@@ -10,7 +10,7 @@ use recorded_cases::lines;
 use recorded_cases::state::{State, broken_line, fails, next_line};
 
 // What was read of a line, and how far the replay is.
-#[derive(Drop)]
+#[derive(Clone, Copy)]
 pub struct Progress {
     pub reader: Reader,
     pub state: State,

@@ -22,7 +22,7 @@ pub const NONE: u32 = 6;
 
 pub const RUN: u32 = 7;
 
-#[derive(Drop)]
+#[derive(Clone, Copy)]
 pub struct State {
     pub phase: u32,
     // The case's queue and output record, the bytes to deliver and the drain buffer: how long each is.

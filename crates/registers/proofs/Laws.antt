@@ -10,7 +10,7 @@ use Rattle.definition.specs.Registers as R
 use Rattle.definition.specs.Registers.{A, reg_at}
 use Rattle.definition.specs.declared.Error.{Error}
 use Rattle.definition.specs.Exec.{Core, Res, Exec, core, err, and_then, or_put, below}
-use Rattle.registers.specs.Meaning.{settled, result, put_res}
+use Rattle.registers.specs.Meaning.{settled, res_of, put_res}
 
 -- a register's number, and any number past 4 is a
 pub reg-is : (n k : ℕ) → n ≡ k → reg_at k ≡ reg_at n
@@ -32,7 +32,7 @@ settled_is s l (R.assigned t) = refl
 settled_is s l (R.refused e) = refl
 
 -- an answer m is followed by k where it is good, and ends there where it is not
-module _ {X Y : Type 0} {m : Res X} {r : Res Y} (v : X) (b : Bool) (e : Error) (c : Core) (h : result v b e c ≡ m) (k : X → Exec Y) where
+module _ {X Y : Type 0} {m : Res X} {r : Res Y} (v : X) (b : Bool) (e : Error) (c : Core) (h : res_of v b e c ≡ m) (k : X → Exec Y) where
   pub then_ok : b ≡ true → r ≡ k v c → r ≡ and_then m k
   unfolding and_then
   then_ok t f = rw (← h, t, f)

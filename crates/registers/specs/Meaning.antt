@@ -13,12 +13,12 @@ settled s (R.assigned t) = record { ok = true; error = Reset; s = t }
 settled s (R.refused e) = record { ok = false; error = e; s = s }
 
 -- A result of the definition from its parts: the value v where it is good.
-abbrev pub result : {X : Type 0} → X → Bool → Error → Core → Res X
-result v b e c = cond b (ok v c) (err e c)
+abbrev pub res_of : {X : Type 0} → X → Bool → Error → Core → Res X
+res_of v b e c = cond b (ok v c) (err e c)
 
 -- An answer that writes no cell, as such a result.
 abbrev pub answer : {X : Type 0} → X → List ℤ → Put → Res X
-answer v l q = result v q.ok q.error (core l q.s)
+answer v l q = res_of v q.ok q.error (core l q.s)
 
 abbrev pub put_res : List ℤ → Put → Res (Unit {0})
 put_res l q = answer tt l q

@@ -8,7 +8,7 @@ ghost use Rattle.registers.specs.Meaning.{settled};
 use definition::{Address, Cell, Error, Registers, Word};
 
 // The registers after an instruction that writes no cell. Where ok, `error` is a filler.
-#[derive(Drop)]
+#[derive(Clone, Copy)]
 pub struct Put {
     pub ok: bool,
     pub error: Error,

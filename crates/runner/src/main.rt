@@ -8,7 +8,7 @@ ghost use Rattle.runner.specs.Input.{PartRead, Printed};
 use libc::{STDERR_FILENO, STDIN_FILENO, STDOUT_FILENO};
 
 // One read more: what was read, up to `at`.
-#[derive(Drop)]
+#[derive(Clone, Copy)]
 struct Part {
     ended: bool,
     failed: bool,
@@ -16,14 +16,14 @@ struct Part {
 }
 
 // How much was read; `failed` where the input could not be read.
-#[derive(Drop)]
+#[derive(Clone, Copy)]
 struct Text {
     failed: bool,
     length: usize,
 }
 
 // How much is to be printed on standard output and on standard error; `failed` as in Text.
-#[derive(Drop)]
+#[derive(Clone, Copy)]
 struct Put {
     failed: bool,
     out: usize,

@@ -7,7 +7,7 @@ ghost use Rattle.runner_cases.specs.Cases.{digit_of, length_at, passing, tally_o
 use libc::STDOUT_FILENO;
 
 // How far the cases got.
-#[derive(Drop)]
+#[derive(Clone, Copy)]
 struct Tally {
     at: usize,
     seen: u64,

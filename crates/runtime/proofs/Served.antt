@@ -24,7 +24,7 @@ use Rattle.definition.specs.Runtime.{Machine, machine, with_timer, executed, Exe
 use Rattle.definition.proofs.Step.{conclude-core}
 use Rattle.memory.specs.Overlay.{NO-CELL, overlay}
 use Rattle.registers.specs.declared.Put.{Put}
-use Rattle.registers.specs.Meaning.{result, answer, put_res}
+use Rattle.registers.specs.Meaning.{res_of, answer, put_res}
 use Rattle.arguments.specs.Operands.{arg_of}
 use Rattle.stores.specs.declared.Made.{Made}
 use Rattle.stores.specs.Meaning.{core_of, made, unwritten}
@@ -63,7 +63,7 @@ conclude-is cost m (ok u c) = refl
 conclude-is cost m (err e c) = refl
 
 -- an instruction that asks nothing
-after-result : (c d : Core) (n : ℕ) (k : Console) (fence : ℕ) (t : Timer) (cost : ℕ) (b : Bool) (e : Error) → concluded_by false cost (machine d n k fence t) (result tt b e d) ≡ M.after_attempt (machine c n k fence t) (attempted cost (result nothing b e d))
+after-result : (c d : Core) (n : ℕ) (k : Console) (fence : ℕ) (t : Timer) (cost : ℕ) (b : Bool) (e : Error) → concluded_by false cost (machine d n k fence t) (res_of tt b e d) ≡ M.after_attempt (machine c n k fence t) (attempted cost (res_of nothing b e d))
 unfolding M.after_attempt M.serve M.conclude
 after-result c d n k fence t cost true e = refl
 after-result c d n k fence t cost false e = refl
@@ -90,7 +90,7 @@ module _ (l : List ℤ) (q : List ℕ) (size : ℕ) (k : ConsoleState) (time : T
 
   pub serves-unwritten : cell_count l ≤ 10000 → (p : Put) → answer nothing l p ≡ x → Serves l q size k time cost x (done (unwritten p) k time)
   serves-unwritten h p e =
-      serves-made (unwritten p) (ap (λ (y : List ℤ). result nothing p.ok p.error (core y p.s)) (none-waits h) ∙ e)
+      serves-made (unwritten p) (ap (λ (y : List ℤ). res_of nothing p.ok p.error (core y p.s)) (none-waits h) ∙ e)
 
   -- in
   pub serves-input : cell_count l ≤ 10000 → (t : Registers) (port value : ℕ) (r : Reg) (k' : ConsoleState) (p : Put) → ok (reads port r) (core l t) ≡ x → ((o : List ℕ) → (value, console_of k' q o) ≡ read_port port (console_of k q o)) → put_res l p ≡ set_register r (word (pos (read_timer port time value))) (core l t) → Serves l q size k time cost x (done (unwritten p) k' time)
@@ -98,7 +98,7 @@ module _ (l : List ℤ) (q : List ℕ) (size : ℕ) (k : ConsoleState) (time : T
   serves-input h t port value r k' p e f g =
       record {
         is = λ o _ c n fence.
-            ap (λ (y : List ℤ). concluded_by false cost (machine (core y p.s) n (console_of k' q o) fence time) (result tt p.ok p.error (core y p.s))) (none-waits h)
+            ap (λ (y : List ℤ). concluded_by false cost (machine (core y p.s) n (console_of k' q o) fence time) (res_of tt p.ok p.error (core y p.s))) (none-waits h)
             ∙ conclude-is cost (machine (core l p.s) n (console_of k' q o) fence time) (put_res l p)
             ∙ conclude-core cost (core l p.s) (machine c n (console_of k' q o) fence time) (put_res l p)
             ∙ ap (λ (y : Res (Unit {0})). M.conclude cost (machine c n (console_of k' q o) fence time) y) g

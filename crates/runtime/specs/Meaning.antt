@@ -15,7 +15,7 @@ use Rattle.definition.specs.Exec.{Core, Res, ok, err, core}
 use Rattle.definition.specs.Runtime.{Machine, machine, with_core, with_timer, executed, or_instruction, saved, Executed}
 use Rattle.definition.specs.Runtime as M
 use Rattle.memory.specs.Overlay.{NO-CELL}
-use Rattle.registers.specs.Meaning.{result}
+use Rattle.registers.specs.Meaning.{res_of}
 use Rattle.stores.specs.declared.Plan.{Plan}
 use Rattle.stores.specs.declared.Made.{Made}
 use Rattle.stores.specs.Meaning.{planned, core_of}
@@ -55,7 +55,7 @@ abbrev pub no_instr : Instr
 no_instr = record { op = 0; cost = 0; x = no_arg; y = no_arg }
 
 abbrev pub fetched_res : List ℤ → Fetched → Res Instruction
-fetched_res l r = result (instr_of r.i) r.ok r.error (core l r.s)
+fetched_res l r = res_of (instr_of r.i) r.ok r.error (core l r.s)
 
 -- The cell v decoded, whatever the cells are. There are 33 operations, and an instruction costs at most 3.
 pub record Decodes (s : Registers) (r : Fetched) (v : Cell) : Type 0 where
@@ -100,7 +100,7 @@ unchanged s k t = unsent (record { s = s; at = NO-CELL; v = empty }) k t
 -- ---- up to exception entry
 
 abbrev pub performed_res : List ℤ → Performed → Res (Unit {0})
-performed_res l e = result tt e.ok e.error (core_of l e.f.p)
+performed_res l e = res_of tt e.ok e.error (core_of l e.f.p)
 
 abbrev pub turn_at : Bool → Bool → ℕ → ℕ → Machine → M.Turn
 turn_at enters stops n d m = cond enters (M.enters n m) (cond stops (M.stops n d m) (M.completes m))

@@ -8,7 +8,7 @@ use console::ConsoleState;
 use definition::{Error, Registers, Timer};
 
 // An executed instruction: how it ended, whether it wrote port 120, and what it does. Where ok, `error` is a filler.
-#[derive(Drop)]
+#[derive(Clone, Copy)]
 pub struct Performed {
     pub ok: bool,
     pub error: Error,
@@ -17,7 +17,7 @@ pub struct Performed {
 }
 
 // Where the step arrives. It enters with the code `number`, or stops with `number` and `detail`, or completes.
-#[derive(Drop)]
+#[derive(Clone, Copy)]
 pub struct Arrival {
     pub enters: bool,
     pub stops: bool,
@@ -28,7 +28,7 @@ pub struct Arrival {
 }
 
 // Was an interrupt due, and the console and the timer after the poll.
-#[derive(Drop)]
+#[derive(Clone, Copy)]
 pub struct Polled {
     pub due: bool,
     pub k: ConsoleState,

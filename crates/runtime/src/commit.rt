@@ -23,7 +23,7 @@ fn write_over(cells: &mut [i64], at: u32, v: Cell)
 
 // "pc, sr and code go to cells 100, 101, 102"
 fn save(cells: &mut [i64], pc: u32, sr: i64, code: u32)
-    requires* { do ⌜ 256 ≤ cell_count cells.old ⌝ }
+    requires { 256 ≤ cell_count cells.old }
     ensures { cells.new ≡ saved pc sr code cells.old }
 {
     memory::put_cell(cells, 100, memory::address_cell(pc));
@@ -33,7 +33,7 @@ fn save(cells: &mut [i64], pc: u32, sr: i64, code: u32)
 
 // pc, sr and code, if a handler is entered.
 fn save_entry(cells: &mut [i64], enters: bool, pc: u32, sr: i64, code: u32)
-    requires* { do ⌜ 256 ≤ cell_count cells.old ⌝ }
+    requires { 256 ≤ cell_count cells.old }
     ensures { cells.new ≡ saves enters pc sr code cells.old }
 {
     if enters {
@@ -44,7 +44,7 @@ fn save_entry(cells: &mut [i64], enters: bool, pc: u32, sr: i64, code: u32)
 
 // The byte that waits, if one does.
 fn send(output: &mut [u8], sends: bool, to: usize, byte: u8)
-    requires* { do ⌜ (sends ≡ true → to < length output.old) ⌝ }
+    requires { sends ≡ true → to < length output.old }
     ensures { output.new ≡ sent sends to byte output.old }
 {
     if sends {
@@ -65,7 +65,8 @@ pub fn write(
     to: usize,
     byte: u8,
 )
-    requires* { do ⌜ 256 ≤ cell_count cells.old ⌝; ⌜ (sends ≡ true → to < length output.old) ⌝ }
+    requires least { 256 ≤ cell_count cells.old }
+    requires fits { sends ≡ true → to < length output.old }
     ensures { (cells.new ≡ written enters code p cells.old) × (output.new ≡ sent sends to byte output.old) }
 {
     let s = p.s;
@@ -77,7 +78,9 @@ pub fn write(
 
 // The effects of a are written, and after them exception entry, if it comes; the machine afterwards.
 pub fn commit(cells: &mut [i64], output: &mut [u8], fence: u32, a: Arrival, enters: bool) -> State
-    requires* { do ⌜ 256 ≤ cell_count cells.old ⌝; ⌜ Room (length output.old) a.f ⌝; ⌜ (enters ≡ true → a.cycles + 1 < 2 ^ 64) ⌝ }
+    requires least { 256 ≤ cell_count cells.old }
+    requires room { Room (length output.old) a.f }
+    requires cycles { enters ≡ true → a.cycles + 1 < 2 ^ 64 }
     ensures { (q : List ℕ) → machine_at cells.new q output.new result ≡ committed enters cells.old q output.old fence a }
 {
     let f = a.f;

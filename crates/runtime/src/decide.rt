@@ -7,7 +7,7 @@ use super::arrive::Arrival;
 
 // How a step ends: completed, or a stop with its detail; whether exception entry comes after its effects; and whether it is `full`, stop 7,
 // of which nothing is done.
-#[derive(Drop)]
+#[derive(Clone, Copy)]
 pub struct Decision {
     pub completed: bool,
     pub stop: u32,
@@ -57,7 +57,9 @@ fn full() -> Decision
 
 // Computer::recover_from_exception at the end of a step.
 fn enter(cells: &[i64], a: Arrival) -> Decision
-    requires* { do ⌜ 256 ≤ cell_count cells.now ⌝; ⌜ a.cycles + 1 < 2 ^ 64 ⌝; ⌜ a.enters ≡ true ⌝ }
+    requires least { 256 ≤ cell_count cells.now }
+    requires cycles { a.cycles + 1 < 2 ^ 64 }
+    requires enters { a.enters ≡ true }
     ensures { Decides cells.now a result }
 {
     let f = a.f;
@@ -76,7 +78,8 @@ fn enter(cells: &[i64], a: Arrival) -> Decision
 }
 
 pub fn decide(cells: &[i64], a: Arrival) -> Decision
-    requires* { do ⌜ 256 ≤ cell_count cells.now ⌝; ⌜ a.cycles + 1 < 2 ^ 64 ⌝ }
+    requires least { 256 ≤ cell_count cells.now }
+    requires cycles { a.cycles + 1 < 2 ^ 64 }
     ensures { Decides cells.now a result }
 {
     if a.enters {

@@ -7,7 +7,7 @@ use definition::{Registers, Timer};
 use stores::Plan;
 
 // The registers and the cell write that waits, the console, the timer, and the byte that waits for place `to` of the output record.
-#[derive(Drop)]
+#[derive(Clone, Copy)]
 pub struct Effects {
     pub p: Plan,
     pub k: ConsoleState,

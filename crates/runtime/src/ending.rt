@@ -5,7 +5,7 @@ ghost use Rattle.runtime.specs.Meaning.{ending_of};
 
 use definition::Error;
 
-#[derive(Drop)]
+#[derive(Clone, Copy)]
 pub struct Ends {
     pub exception: bool,
     pub number: u32,

@@ -8,7 +8,7 @@ use definition::{Cell, Registers};
 
 // "if cell 200 is no instruction", once the write that waits is made: v at `at`.
 pub fn has_handler(cells: &[i64], at: u32, v: Cell) -> bool
-    requires* { do ⌜ 256 ≤ cell_count cells.now ⌝ }
+    requires { 256 ≤ cell_count cells.now }
     ensures { result ≡ has_handler (overlay at v cells.now) }
 {
     if at == 200 {

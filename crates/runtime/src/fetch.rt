@@ -10,7 +10,7 @@ use definition::{Cell, Error, Registers};
 use encoding::Instr;
 
 // The instruction at pc, with pc moved on. Where not ok, `i` is a filler.
-#[derive(Drop)]
+#[derive(Clone, Copy)]
 pub struct Fetched {
     pub ok: bool,
     pub error: Error,
@@ -58,7 +58,8 @@ fn decoded(v: Cell, s: Registers) -> Fetched
 
 // "Fetch at pc outside the cells raises code 5 with pc unmoved."
 pub fn fetch(cells: &[i64], s: Registers) -> Fetched
-    requires* { do ⌜ cell_count cells.now ≤ CELLS-MOST ⌝; ⌜ ((n : ℕ) → n < cell_count cells.now → sound (cell_at cells.now n) ≡ true) ⌝ }
+    requires most { cell_count cells.now ≤ CELLS-MOST }
+    requires sound { (n : ℕ) → n < cell_count cells.now → sound (cell_at cells.now n) ≡ true }
     ensures { Fetches cells.now s result }
 {
     let pc = s.pc;

@@ -18,7 +18,7 @@ pub mod raise;
 pub mod settle;
 
 // Computer, without the lent cells, queue and output record.
-#[derive(Drop)]
+#[derive(Clone, Copy)]
 pub struct State {
     pub s: Registers,
     pub cycles: u64,
@@ -39,7 +39,7 @@ pub fn guard(m: State) -> u32
 }
 
 // Where a step got: completed, or a stop with its detail.
-#[derive(Drop)]
+#[derive(Clone, Copy)]
 pub struct Stepped {
     pub completed: bool,
     pub stop: u32,

@@ -14,7 +14,7 @@ use encoding::Instr;
 use stores::Made;
 
 // An executed instruction, or `full`: it would write a byte past the output record.
-#[derive(Drop)]
+#[derive(Clone, Copy)]
 pub struct Served {
     pub full: bool,
     pub e: Performed,
@@ -52,7 +52,9 @@ fn input(
     timer: Timer,
     i: Instr,
 ) -> Served
-    requires* { do ⌜ (cell_count cells.now ≤ CELLS-MOST) × (k.start < length queue.now) ⌝; ⌜ TimerIn timer ⌝; ⌜ i.op ≡ 6 ⌝ }
+    requires sized { (cell_count cells.now ≤ CELLS-MOST) × (k.start < length queue.now) }
+    requires timer { TimerIn timer }
+    requires op { i.op ≡ 6 }
     ensures { (g size : ℕ) → Serves cells.now queue.now size k timer i.cost (executed_at g cells.now s i) result }
 {
     let x = i.x;
@@ -80,7 +82,8 @@ fn output(
     timer: Timer,
     i: Instr,
 ) -> Served
-    requires* { do ⌜ (cell_count cells.now ≤ CELLS-MOST) × (k.written ≤ 65536) ⌝; ⌜ i.op ≡ 20 ⌝ }
+    requires sized { (cell_count cells.now ≤ CELLS-MOST) × (k.written ≤ 65536) }
+    requires op { i.op ≡ 20 }
     ensures { (g : ℕ) → Serves cells.now queue.now size k timer i.cost (executed_at g cells.now s i) result }
 {
     let x = i.x;
@@ -138,7 +141,9 @@ pub fn ask(
     timer: Timer,
     i: Instr,
 ) -> Served
-    requires* { do ⌜ (cell_count cells.now ≤ CELLS-MOST) × ((k.start < length queue.now) × (k.written ≤ 65536)) ⌝; ⌜ TimerIn timer ⌝; ⌜ asker i.op ≡ true ⌝ }
+    requires sized { (cell_count cells.now ≤ CELLS-MOST) × ((k.start < length queue.now) × (k.written ≤ 65536)) }
+    requires timer { TimerIn timer }
+    requires asks { asker i.op ≡ true }
     ensures { (g : ℕ) → Serves cells.now queue.now size k timer i.cost (executed_at g cells.now s i) result }
 {
     let op = i.op;

@@ -26,7 +26,8 @@ fn raising(m: State, code: u32) -> Arrival
 
 // "a handler entry [...] by raise takes off none". It sends no byte, so that an output record of no byte will do.
 pub fn raise(cells: &mut [i64], m: State, code: u32) -> Stepped
-    requires* { do ⌜ (256 ≤ cell_count cells.old) × (cell_count cells.old ≤ 10000) ⌝; ⌜ m.cycles + 1 < 2 ^ 64 ⌝ }
+    requires sized { (256 ≤ cell_count cells.old) × (cell_count cells.old ≤ 10000) }
+    requires cycles { m.cycles + 1 < 2 ^ 64 }
     ensures { (q : List ℕ) → stepped_of cells.new q [] result ≡ limit (machine_at cells.old q [] m) (recover code (machine_at cells.old q [] m)) }
 {
     let a = raising(m, code);

@@ -34,7 +34,9 @@ fn elapsed(enters: bool, code: u32, timer: Timer) -> Timer
 
 // m is the machine before the step, which stop 7 leaves; the fence is that of every step.
 pub fn settle(cells: &mut [i64], output: &mut [u8], m: State, fence: u32, a: Arrival) -> Stepped
-    requires* { do ⌜ (256 ≤ cell_count cells.old) × (cell_count cells.old ≤ 10000) ⌝; ⌜ a.cycles + 1 < 2 ^ 64 ⌝; ⌜ Room (length output.old) a.f ⌝ }
+    requires sized { (256 ≤ cell_count cells.old) × (cell_count cells.old ≤ 10000) }
+    requires cycles { a.cycles + 1 < 2 ^ 64 }
+    requires room { Room (length output.old) a.f }
     ensures { (q : List ℕ) → stepped_of cells.new q output.new result ≡ limit (machine_at cells.old q output.old m) (settle (turn_of cells.old q output.old fence a)) }
 {
     let d = super::decide::decide(cells, a);

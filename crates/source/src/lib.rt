@@ -13,7 +13,7 @@ use definition::{Counted, Done};
 use lines::{Reader, Start};
 
 // What became of a file: a refusal and its line, 0 where there is none, and what its start line says.
-#[derive(Drop)]
+#[derive(Clone, Copy)]
 pub struct Loaded {
     pub refusal: u64,
     pub place: u64,

@@ -6,7 +6,7 @@ use Rattle.definition.specs.Registers.{Reg, put_reg}
 use Rattle.definition.specs.Exec.{Core, Res, core}
 use Rattle.memory.specs.Overlay.{overlay, NO-CELL}
 use Rattle.registers.specs.declared.Put.{Put}
-use Rattle.registers.specs.Meaning.{result, settled}
+use Rattle.registers.specs.Meaning.{res_of, settled}
 use Rattle.stores.specs.declared.Plan.{Plan}
 use Rattle.stores.specs.declared.Made.{Made}
 
@@ -18,7 +18,7 @@ abbrev pub core_of : List ℤ → Plan → Core
 core_of l p = core (planned l p) p.s
 
 abbrev pub made : {X : Type 0} → X → List ℤ → Made → Res X
-made v l d = result v d.ok d.error (core_of l d.p)
+made v l d = res_of v d.ok d.error (core_of l d.p)
 
 abbrev pub made_res : List ℤ → Made → Res (Unit {0})
 made_res l d = made tt l d

@@ -14,7 +14,7 @@ use definition::{Cell, Error, Registers};
 use registers::Put;
 
 // The registers, and the one cell write that waits: v at `at`, which is NO_CELL where there is none.
-#[derive(Drop)]
+#[derive(Clone, Copy)]
 pub struct Plan {
     pub s: Registers,
     pub at: u32,
@@ -22,7 +22,7 @@ pub struct Plan {
 }
 
 // The answer of an instruction. Where ok, `error` is a filler.
-#[derive(Drop)]
+#[derive(Clone, Copy)]
 pub struct Made {
     pub ok: bool,
     pub error: Error,
@@ -67,7 +67,7 @@ fn fails(s: Registers, error: Error) -> Made
 
 // Computer::write: `guard` is the first address that the step may write, 0 or the fence. The one place where a write is decided.
 pub fn write_at(cells: &[i64], guard: u32, s: Registers, n: u32, v: Cell) -> Made
-    requires* { do ⌜ cell_count cells.now ≤ CELLS-MOST ⌝ }
+    requires { cell_count cells.now ≤ CELLS-MOST }
     ensures { made_res cells.now result ≡ write guard n v (core cells.now s) }
 {
     let at = n as usize;
@@ -80,7 +80,7 @@ pub fn write_at(cells: &[i64], guard: u32, s: Registers, n: u32, v: Cell) -> Mad
 
 // Computer::push: "the push then raises code 5 and sp stays so"
 pub fn push_cell(cells: &[i64], guard: u32, s: Registers, v: Cell) -> Made
-    requires* { do ⌜ cell_count cells.now ≤ CELLS-MOST ⌝ }
+    requires { cell_count cells.now ≤ CELLS-MOST }
     ensures { made_res cells.now result ≡ push guard v (core cells.now s) }
 {
     let sp = registers::below(s.sp);
@@ -90,7 +90,7 @@ pub fn push_cell(cells: &[i64], guard: u32, s: Registers, v: Cell) -> Made
 }
 
 pub fn push(cells: &[i64], guard: u32, s: Registers, x: Arg) -> Made
-    requires* { do ⌜ cell_count cells.now ≤ CELLS-MOST ⌝ }
+    requires { cell_count cells.now ≤ CELLS-MOST }
     ensures { made_res cells.now result ≡ push_op guard (arg_of x) (core cells.now s) }
 {
     let given = arguments::cell_of(cells, s, x);
@@ -105,7 +105,7 @@ pub fn push(cells: &[i64], guard: u32, s: Registers, x: Arg) -> Made
 
 // "st takes a word, so empty becomes word 0 and an instruction stops."
 pub fn st(cells: &[i64], guard: u32, s: Registers, r: u32, y: Arg) -> Made
-    requires* { do ⌜ cell_count cells.now ≤ CELLS-MOST ⌝ }
+    requires { cell_count cells.now ≤ CELLS-MOST }
     ensures { made_res cells.now result ≡ st guard (reg_at r) (arg_of y) (core cells.now s) }
 {
     let given = arguments::register_word(s, r);
@@ -125,7 +125,7 @@ pub fn st(cells: &[i64], guard: u32, s: Registers, r: u32, y: Arg) -> Made
 
 // "call pushes pc before it reads its operand."
 pub fn call(cells: &[i64], guard: u32, s: Registers, x: Arg) -> Made
-    requires* { do ⌜ cell_count cells.now ≤ CELLS-MOST ⌝ }
+    requires { cell_count cells.now ≤ CELLS-MOST }
     ensures { made_res cells.now result ≡ call guard (arg_of x) (core cells.now s) }
 {
     let d = push_cell(cells, guard, s, memory::address_cell(s.pc));
@@ -147,7 +147,7 @@ pub fn call(cells: &[i64], guard: u32, s: Registers, x: Arg) -> Made
 
 // "fas writes word 1 before the register is set, so a refused register leaves the cell changed."
 pub fn fas(cells: &[i64], guard: u32, s: Registers, x: Arg, r: u32) -> Made
-    requires* { do ⌜ cell_count cells.now ≤ CELLS-MOST ⌝ }
+    requires { cell_count cells.now ≤ CELLS-MOST }
     ensures { made_res cells.now result ≡ fas guard (arg_of x) (reg_at r) (core cells.now s) }
 {
     let place = arguments::address_of(s, x);
@@ -185,7 +185,7 @@ fn set_after(d: Made, r: u32, v: Cell) -> Made
 
 // The second half of swap: the register's old cell goes to the operand, found from the new registers.
 pub fn swap_back(cells: &[i64], guard: u32, s: Registers, x: Arg, v: Cell) -> Made
-    requires* { do ⌜ cell_count cells.now ≤ CELLS-MOST ⌝ }
+    requires { cell_count cells.now ≤ CELLS-MOST }
     ensures { made_res cells.now result ≡ swap_back guard (arg_of x) v (core cells.now s) }
 {
     if x.mode == 2 {
@@ -202,7 +202,7 @@ pub fn swap_back(cells: &[i64], guard: u32, s: Registers, x: Arg, v: Cell) -> Ma
 
 // "swap writes its register first and resolves the memory address from the new registers."
 pub fn swap(cells: &[i64], guard: u32, s: Registers, x: Arg, r: u32) -> Made
-    requires* { do ⌜ cell_count cells.now ≤ CELLS-MOST ⌝ }
+    requires { cell_count cells.now ≤ CELLS-MOST }
     ensures { made_res cells.now result ≡ swap guard (arg_of x) (reg_at r) (core cells.now s) }
 {
     let given = arguments::cell_of(cells, s, x);

@@ -111,7 +111,7 @@ fn swap(cells: &[i64], s: Registers, x: Arg, r: u32) -> AddressTaken
 
 // The five that write: call, fas, push, st and swap.
 pub fn place(cells: &[i64], s: Registers, op: u32, x: Arg, y: Arg) -> AddressTaken
-    requires* { do ⌜ op < 33 ⌝ }
+    requires { op < 33 }
     ensures { address_res cells.now result ≡ aim (op_at op) (arg_of x) (arg_of y) (reg_at x.reg) (reg_at y.reg) (core cells.now s) }
 {
     match op {
@@ -126,7 +126,7 @@ pub fn place(cells: &[i64], s: Registers, op: u32, x: Arg, y: Arg) -> AddressTak
 
 // The address that the instruction writes, NO_CELL where it writes none: `guard` is the first address that the step may write.
 pub fn written_at(cells: &[i64], guard: u32, s: Registers, op: u32, x: Arg, y: Arg) -> u32
-    requires* { do ⌜ (cell_count cells.now ≤ CELLS-MOST) × (op < 33) ⌝ }
+    requires { (cell_count cells.now ≤ CELLS-MOST) × (op < 33) }
     ensures { written_at cells.now result ≡ wrote_there guard cells.now (aim (op_at op) (arg_of x) (arg_of y) (reg_at x.reg) (reg_at y.reg) (core cells.now s)) }
 {
     let t = place(cells, s, op, x, y);

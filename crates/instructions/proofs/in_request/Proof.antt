@@ -2,7 +2,7 @@ use mathlib.Core.Path.{sym, ◌∙◌, ap}
 use Rattle.definition.specs.Registers.{reg_at}
 use Rattle.definition.specs.Exec.{core}
 use Rattle.definition.specs.Instructions.{in_op, reads}
-use Rattle.registers.specs.Meaning.{result}
+use Rattle.registers.specs.Meaning.{res_of}
 use Rattle.arguments.specs.Operands.{arg_of}
 use Rattle.arguments.proofs.Laws.{address-of-is}
 use Rattle.instructions.specs.declared.Asked.{Asked}
@@ -42,7 +42,7 @@ returns-2 c =
     let at-supervisor = at-if1.before in
     let start = at-supervisor.before in
     λ l. let a = start.args in
-    unprivileged a.s l _ (sym at-supervisor.supervisor.ensures ∙ at-if1.if1.false) (ap (λ (q : Asked). result (reads q.port (reg_at a.r)) q.ok q.error (core l q.s)) c.not-asked.ensures)
+    unprivileged a.s l _ (sym at-supervisor.supervisor.ensures ∙ at-if1.if1.false) (ap (λ (q : Asked). res_of (reads q.port (reg_at a.r)) q.ok q.error (core l q.s)) c.not-asked.ensures)
 
 pub in-request-spec : {M : Type 1} → statement M
 in-request-spec =

@@ -2,7 +2,7 @@ use mathlib.Core.Path.{sym, ◌∙◌, ap}
 use Rattle.word.proofs.Laws.{back}
 use Rattle.definition.specs.Exec.{core}
 use Rattle.definition.specs.Instructions.{out_op, writes}
-use Rattle.registers.specs.Meaning.{result}
+use Rattle.registers.specs.Meaning.{res_of}
 use Rattle.arguments.specs.Operands.{arg_of}
 use Rattle.arguments.proofs.Laws.{word-of-is, address-of-is, word_ok, word-err}
 use Rattle.instructions.specs.declared.Asked.{Asked}
@@ -50,7 +50,7 @@ returns-2 c =
     let at-supervisor = at-if1.before in
     let start = at-supervisor.before in
     let a = start.args in let l = a.cells.now in let t = at-word-of.word_of.result in
-    privileged a.s l _ (sym at-supervisor.supervisor.ensures ∙ at-if1.if1.true) (word-err l t (word-of-is l a.s (arg_of a.x) t at-word-of.word_of.ensures) _ at-if2.if2.false (ap (λ (q : Asked). result (writes q.port q.w) q.ok q.error (core l q.s)) c.not-asked.ensures))
+    privileged a.s l _ (sym at-supervisor.supervisor.ensures ∙ at-if1.if1.true) (word-err l t (word-of-is l a.s (arg_of a.x) t at-word-of.word_of.ensures) _ at-if2.if2.false (ap (λ (q : Asked). res_of (writes q.port q.w) q.ok q.error (core l q.s)) c.not-asked.ensures))
 
 not-asked-requires-2 : tie.Need-not-asked-requires-2
 not-asked-requires-2 c κs = search rules
@@ -62,7 +62,7 @@ returns-3 c =
     let at-supervisor = at-if1.before in
     let start = at-supervisor.before in
     let a = start.args in let l = a.cells.now in
-    unprivileged a.s l _ (sym at-supervisor.supervisor.ensures ∙ at-if1.if1.false) (ap (λ (q : Asked). result (writes q.port q.w) q.ok q.error (core l q.s)) c.not-asked2.ensures)
+    unprivileged a.s l _ (sym at-supervisor.supervisor.ensures ∙ at-if1.if1.false) (ap (λ (q : Asked). res_of (writes q.port q.w) q.ok q.error (core l q.s)) c.not-asked2.ensures)
 
 pub out-request-spec : {M : Type 1} → statement M
 out-request-spec =

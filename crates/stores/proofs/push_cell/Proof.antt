@@ -1,5 +1,5 @@
 use mathlib.Core.Path.{◌∙◌}
-use Rattle.registers.specs.Meaning.{result}
+use Rattle.registers.specs.Meaning.{res_of}
 use Rattle.stores.proofs.Laws.{push_at}
 use borrow.Author.Rules.{rules}
 use Rattle.stores.proofs.push_cell.Statement.{statement}

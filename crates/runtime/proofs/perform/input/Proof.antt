@@ -4,7 +4,7 @@ use Rattle.definition.specs.Memory.{word}
 use Rattle.definition.specs.Registers.{reg_at, put_reg}
 use Rattle.definition.specs.Exec.{core}
 use Rattle.definition.specs.Instructions.{nothing, reads}
-use Rattle.registers.specs.Meaning.{answer, put_res, result}
+use Rattle.registers.specs.Meaning.{answer, put_res, res_of}
 use Rattle.registers.proofs.Laws.{settled_is}
 use Rattle.word.proofs.Laws.{back}
 use Rattle.runtime.proofs.Served.{serves-unwritten, serves-input, is-in}
@@ -43,7 +43,7 @@ returns c =
     let at-in-request = then1.before.before in
     let start = at-in-request.before.before.before.before in
     λ g size. let a = start.args in let l = a.cells.now in let q = at-in-request.in-request.result in
-    let e = ap (λ (b : Bool). result (reads q.port (reg_at a.i.y.reg)) b q.error (core l q.s)) (sym then1.if1.true) ∙ at-in-request.in-request.ensures l ∙ is-in g l a.s a.i start.requires.1.1 in
+    let e = ap (λ (b : Bool). res_of (reads q.port (reg_at a.i.y.reg)) b q.error (core l q.s)) (sym then1.if1.true) ∙ at-in-request.in-request.ensures l ∙ is-in g l a.s a.i start.requires.1.1 in
     let v = at-read-port.read-port.result in
     let u = at-read-port2.read-port2 in
     let read = at-word-cell.word_cell.ensures ∙ ap word (back u.result u.type-inv ∙ u.ensures) in
@@ -66,7 +66,7 @@ returns-2 c =
     let at-in-request = else1.before.before in
     let start = at-in-request.before.before.before.before in
     λ g size. let a = start.args in let l = a.cells.now in let q = at-in-request.in-request.result in
-    let e = ap (λ (b : Bool). result (reads q.port (reg_at a.i.y.reg)) b q.error (core l q.s)) (sym else1.if1.false) ∙ at-in-request.in-request.ensures l ∙ is-in g l a.s a.i start.requires.1.1 in
+    let e = ap (λ (b : Bool). res_of (reads q.port (reg_at a.i.y.reg)) b q.error (core l q.s)) (sym else1.if1.false) ∙ at-in-request.in-request.ensures l ∙ is-in g l a.s a.i start.requires.1.1 in
     rw (c.done2.ensures, c.before.with-none2.ensures) (serves-unwritten l a.queue.now size a.k a.timer a.i.cost _ start.requires.0.0 at-refuse.refuse.result (ap (answer nothing l) at-refuse.refuse.ensures ∙ e))
 
 pub input-spec : {M : Type 1} → statement M

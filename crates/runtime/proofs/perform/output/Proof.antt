@@ -2,7 +2,7 @@ use mathlib.Core.Path.{◌≡◌, ◌∙◌, sym, ap}
 use mathlib.Core.Bool.{Bool}
 use Rattle.definition.specs.Exec.{core}
 use Rattle.definition.specs.Instructions.{nothing, writes}
-use Rattle.registers.specs.Meaning.{answer, result}
+use Rattle.registers.specs.Meaning.{answer, res_of}
 use Rattle.word.proofs.Laws.{back}
 use Rattle.runtime.proofs.Served.{serves-unwritten, serves-full, serves-set, serves-sent, is-out}
 use borrow.Author.Rules.{rules}
@@ -31,7 +31,7 @@ returns c =
     let at-out-request = then1.before.before in
     let start = at-out-request.before.before.before.before in
     λ g. let a = start.args in let l = a.cells.now in let q = at-out-request.out-request.result in
-    let e = ap (λ (b : Bool). result (writes q.port q.w) b q.error (core l q.s)) (sym then1.if1.true) ∙ at-out-request.out-request.ensures ∙ is-out g l a.s a.i start.requires.1 in
+    let e = ap (λ (b : Bool). res_of (writes q.port q.w) b q.error (core l q.s)) (sym then1.if1.true) ∙ at-out-request.out-request.ensures ∙ is-out g l a.s a.i start.requires.1 in
     serves-full l a.queue.now a.size a.k a.timer a.i.cost _ q.s q.port q.w c.done.result.e e (λ y o h. sym c.before.if2.true ∙ at-output-full.output-full.ensures y o h)
 
 set-requires : tie.Need-set-requires
@@ -52,7 +52,7 @@ returns-2 c =
     let at-out-request = then1.before.before in
     let start = at-out-request.before.before.before.before in
     λ g. let a = start.args in let l = a.cells.now in let q = at-out-request.out-request.result in
-    let e = ap (λ (b : Bool). result (writes q.port q.w) b q.error (core l q.s)) (sym then1.if1.true) ∙ at-out-request.out-request.ensures ∙ is-out g l a.s a.i start.requires.1 in
+    let e = ap (λ (b : Bool). res_of (writes q.port q.w) b q.error (core l q.s)) (sym then1.if1.true) ∙ at-out-request.out-request.ensures ∙ is-out g l a.s a.i start.requires.1 in
     let set = rw (back q.w at-struct-told.struct_told.given.1.1.1.0.1) at c.before.set.ensures in
     rw (c.unsent.ensures, set, at-with-none.with_none.ensures, at-accept.accept.ensures) (serves-set l a.queue.now a.size a.k a.timer a.i.cost _ start.requires.0.0 q.s q.port q.w _ e (λ y o h. sym else2.if2.false ∙ at-output-full.output-full.ensures y o h) then3.if3.true)
 
@@ -74,7 +74,7 @@ returns-3 c =
     let at-out-request = then1.before.before in
     let start = at-out-request.before.before.before.before in
     λ g. let a = start.args in let l = a.cells.now in let q = at-out-request.out-request.result in
-    let e = ap (λ (b : Bool). result (writes q.port q.w) b q.error (core l q.s)) (sym then1.if1.true) ∙ at-out-request.out-request.ensures ∙ is-out g l a.s a.i start.requires.1 in
+    let e = ap (λ (b : Bool). res_of (writes q.port q.w) b q.error (core l q.s)) (sym then1.if1.true) ∙ at-out-request.out-request.ensures ∙ is-out g l a.s a.i start.requires.1 in
     rw (at-with-none.with_none.ensures, at-accept.accept.ensures) (serves-sent l a.queue.now a.size a.k a.timer a.i.cost _ start.requires.0.0 q.s q.port q.w at-write-port.write-port.result _ e (λ y o h. sym else2.if2.false ∙ at-output-full.output-full.ensures y o h) else3.if3.false (rw (back q.w at-struct-told2.struct-told2.given.1.1.1.0.1) at at-write-port.write-port.ensures))
 
 refuse-requires : tie.Need-refuse-requires
@@ -93,7 +93,7 @@ returns-4 c =
     let at-out-request = else1.before.before in
     let start = at-out-request.before.before.before.before in
     λ g. let a = start.args in let l = a.cells.now in let q = at-out-request.out-request.result in
-    let e = ap (λ (b : Bool). result (writes q.port q.w) b q.error (core l q.s)) (sym else1.if1.false) ∙ at-out-request.out-request.ensures ∙ is-out g l a.s a.i start.requires.1 in
+    let e = ap (λ (b : Bool). res_of (writes q.port q.w) b q.error (core l q.s)) (sym else1.if1.false) ∙ at-out-request.out-request.ensures ∙ is-out g l a.s a.i start.requires.1 in
     rw (c.done2.ensures, c.before.with-none2.ensures) (serves-unwritten l a.queue.now a.size a.k a.timer a.i.cost _ start.requires.0.0 at-refuse.refuse.result (ap (answer nothing l) at-refuse.refuse.ensures ∙ e))
 
 pub output-spec : {M : Type 1} → statement M
