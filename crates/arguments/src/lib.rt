@@ -1,4 +1,6 @@
 // arguments.rs: what an operand names and gives. Which error an operand ends in, and what taking it leaves of the registers, is said here alone (taken.rt).
+#![tactic(auto)]
+
 ghost use Rattle.std.specs.Prelude.{◌≡◌, List, ℤ, ◌+ℤ◌};
 ghost use Rattle.definition.specs.declared.Error.TheVariants.{InvalidMemoryAccess};
 ghost use Rattle.definition.specs.Word.{wrap, address_of};

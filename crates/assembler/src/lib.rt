@@ -1,4 +1,6 @@
 // Programs written as text: the passes over a text, and the call that fills an image.
+#![tactic(auto)]
+
 pub mod judge;
 pub mod labels;
 pub mod lines;

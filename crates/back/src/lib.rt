@@ -1,4 +1,6 @@
 // "Going back, one step a call, is lent cells, row and journal": its tests, and the newest record put back.
+#![tactic(auto)]
+
 ghost use Rattle.std.specs.Prelude.{◌≡◌, true, ◌&&◌, ◌||◌, suc, ◌+◌, ◌*◌, ◌<◌, ◌≤◌, pos, length, get_or, eqb};
 ghost use Rattle.definition.specs.Constants.{ROW};
 ghost use Rattle.definition.specs.Memory.{cell_count, put_cell};

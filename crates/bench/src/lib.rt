@@ -1,4 +1,6 @@
 // "One bench, sixteen seats." A bench list has one record for each seat: a lent slice of these, updated by a thin function after a turn.
+#![tactic(auto)]
+
 ghost use Rattle.std.specs.Prelude.{◌≡◌, ◌+◌, ◌<◌, ◌^◌, length, set, get_or};
 ghost use Rattle.bench.specs.Seat.{no_seat, can_go_on, least, turn_budget, after};
 

@@ -1,4 +1,6 @@
 // "Turned back, in checking order": the tests that several calls make.
+#![tactic(auto)]
+
 ghost use Rattle.std.specs.Prelude.{◌≡◌, cond, ℕ, suc, ◌+◌, ◌<◌, ◌≤◌, pos, nat_abs, length, get_or, drop};
 ghost use Rattle.definition.specs.Constants.{ROW};
 ghost use Rattle.definition.specs.Word.{address_of};

@@ -1,4 +1,6 @@
 // Computer::step and Computer::run of mod.rs, over lent cells, queue and output record.
+#![tactic(auto)]
+
 ghost use Rattle.std.specs.Prelude.{◌≡◌, true, false, ◌≤◌};
 ghost use Rattle.definition.specs.Total.{total};
 ghost use Rattle.definition.specs.Runtime.{step, run};

@@ -1,4 +1,6 @@
 // io.rs: the serial console, by value beside the lent queue and output record. Its three marks are changed in crates/marks.
+#![tactic(auto)]
+
 ghost use Rattle.std.specs.Prelude.{◌≡◌, List, ℕ, ◌+◌, ◌<◌, ◌≤◌, length, set};
 ghost use Rattle.definition.specs.Io.{around, read_port, read_data, write_port, output_full, put_bytes, drained};
 ghost use Rattle.console.specs.Meaning.{console_of, Sends};

@@ -1,4 +1,6 @@
 // Decimal numbers of 64 bits, a digit at a time: those of programs written as text, of the runner's lines and of the recorded list.
+#![tactic(auto)]
+
 ghost use Rattle.std.specs.Prelude.{◌≡◌, ◌<◌, leb};
 ghost use Rattle.decimal.specs.Decimal.{cap_step, limit, value_of};
 

@@ -1,4 +1,6 @@
 // The types and the places that the definition and the code share, declared once. No function stands here.
+#![tactic(auto)]
+
 pub mod places;
 
 // Three numbers (document 01, "Cells and row"): empty is 0,0,0, word w is 1,w,0, an instruction has a tag of 2 or more.

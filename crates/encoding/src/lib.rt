@@ -1,4 +1,6 @@
 // "Cells and row": decoding an instruction's tag, its cost, and which cells are damaged.
+#![tactic(auto)]
+
 pub mod forms;
 
 ghost use Rattle.std.specs.Prelude.{◌≡◌, true, ◌&&◌, ◌+◌, ◌*◌, ◌/◌, ◌%◌, ◌<◌, pos, length};

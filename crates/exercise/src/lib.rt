@@ -1,4 +1,6 @@
 // "A stated exercise load": a lent image filled from a seed. Each function answers what specs/Exercise.antt says.
+#![tactic(auto)]
+
 pub mod forms;
 
 ghost use Rattle.std.specs.Prelude.{◌≡◌, ◌/◌, ◌%◌, length, pos, ◌==◌};

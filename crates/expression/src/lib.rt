@@ -1,4 +1,6 @@
 // Constant expressions, read and worked out at once: sum, product and atom call each other.
+#![tactic(auto)]
+
 pub mod table;
 
 ghost use Rattle.std.specs.Prelude.{◌≡◌, cond, ◌+◌, ◌-◌, ◌≤◌, ◌<◌, length, drop, eqb};

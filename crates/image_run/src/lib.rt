@@ -1,4 +1,6 @@
 // A program loaded, run as document 01's runner runs it, and what is printed of it.
+#![tactic(auto)]
+
 ghost use Rattle.std.specs.Prelude.{◌≡◌, ◌+◌, ◌≤◌, length, take, replicate};
 ghost use Rattle.definition.specs.Constants.{ROW};
 ghost use Rattle.io.specs.Counts.{IsPrefixLen};

@@ -1,4 +1,6 @@
 // instructions.rs: Instruction::execute, and the two requests to the console.
+#![tactic(auto)]
+
 ghost use Rattle.std.specs.Prelude.{◌≡◌, false, List, ◌≤◌, ◌<◌, ℤ, pos};
 ghost use Rattle.definition.specs.Constants.{CELLS-MOST};
 ghost use Rattle.definition.specs.Memory.{cell_count};

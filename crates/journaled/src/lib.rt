@@ -1,5 +1,7 @@
 // The calls that are lent a journal and take no step, raise aside: "first the call's own" refusals, "then 20". Each tests the journal first, and makes the call
 // without one where it fits and only the call's tests where not: no test is made twice, and 20 is still answered last.
+#![tactic(auto)]
+
 pub mod cells;
 pub mod fresh;
 pub mod register;

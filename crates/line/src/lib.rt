@@ -1,4 +1,6 @@
 // A line of a program written as text: its operands, what stands in its cell, its label.
+#![tactic(auto)]
+
 pub mod content;
 pub mod names;
 pub mod operands;

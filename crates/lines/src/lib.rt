@@ -1,5 +1,7 @@
 // Lines of four decimal numbers, which the runner took before, read byte by byte: a text comes in parts of any size and takes no more
 // memory than the reader and the cells.
+#![tactic(auto)]
+
 pub mod line;
 pub mod part;
 

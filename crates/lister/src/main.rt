@@ -1,6 +1,8 @@
 // The listings tool: reads an old image's numeric lines from standard input and prints its cells as a program written as text. Its argument `loss` allows empty
 // cells, which come out as `.word 0`. No contract can say which bytes a read gives or a write takes: what is read is some text, and what is written is
 // made by `put_input`.
+#![tactic(auto)]
+
 mod names;
 
 ghost use Rattle.std.specs.Prelude.{◌≡◌, length, take, replicate};

@@ -1,4 +1,6 @@
 // Listings: an image as text of the assembler, one line a cell.
+#![tactic(auto)]
+
 pub mod line;
 pub mod lines;
 pub mod names;

@@ -1,4 +1,6 @@
 // The machine that is lent as four buffers: read from an accepted row, run, and written back. Whoever runs it has made the acceptance tests.
+#![tactic(auto)]
+
 ghost use Rattle.std.specs.Prelude.{◌≡◌, ◌<◌, ◌^◌, length};
 ghost use Rattle.definition.specs.Constants.{ROW, ROW-PC, ROW-SP, ROW-FENCE};
 ghost use Rattle.definition.specs.Calls.{at, called, lent, run_call};

@@ -1,6 +1,8 @@
 // io.rs: the console's three marks, one record changed in place. `Marks` is definition's; enable, flag and pending are io.rs's
 // irq_on_ready, interrupt_flag and pending_irq. Each change is a by-value function; `change_in` makes it in place, a thin function over these, and `after_change`
 // lends a local to it for callers.
+#![tactic(auto)]
+
 ghost use Rattle.std.specs.Prelude.{◌≡◌, false, cond, ◌<◌};
 ghost use Rattle.definition.specs.Io.{status, read_status, write_control, raise_interrupt, delivered, with_pending};
 ghost use Rattle.marks.specs.Change.{changed};

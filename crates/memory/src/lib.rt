@@ -1,4 +1,6 @@
 // memory.rs: cells, each three numbers of a lent list. Every address is tested here or by a `requires`, so no caller can read past the end.
+#![tactic(auto)]
+
 ghost use Rattle.std.specs.Prelude.{◌≡◌, ◌<◌, pos};
 ghost use Rattle.definition.specs.Memory.{cell_count, cell_at, put_cell, get, word_at, extract_word, as_address, extract_address, is_instruction, word as wordCell};
 ghost use Rattle.memory.specs.Overlay.{overlay};

@@ -1,4 +1,6 @@
 // What a step is about to write, found before it is taken, and its record in a journal: the row before and what those cells held.
+#![tactic(auto)]
+
 ghost use Rattle.std.specs.Prelude.{◌≡◌, [], ◌∷◌, ◌+◌, ◌<◌, pos, length};
 ghost use Rattle.std.proofs.lemmas.List.Edits.{sets};
 ghost use Rattle.journal.specs.Journal.{RECORD, record_of, numbers};

@@ -1,4 +1,6 @@
 // instructions.rs, its arithmetic: what a result does to the registers, and (words.rt) the instructions that compute on words.
+#![tactic(auto)]
+
 ghost use Rattle.std.specs.Prelude.{◌≡◌, ◌<◌, List, ℤ, pos, false};
 ghost use Rattle.definition.specs.Registers.{reg_at};
 ghost use Rattle.definition.specs.Instructions.{sign_flags, put_result, put_wrapped, put_compared, put_quotient, put_shifted};

@@ -1,5 +1,7 @@
 // Bytes and decimal numbers as text. Each function puts a text behind the first `at` bytes of a buffer and answers where the text ends; the
 // bytes behind it are kept.
+#![tactic(auto)]
+
 ghost use Rattle.std.specs.Prelude.{◌≡◌, [], ◌∷◌, ◌++◌, ◌+◌, ◌≤◌, length, take, drop};
 ghost use Rattle.printing.specs.Decimal.{decimal, numeral};
 

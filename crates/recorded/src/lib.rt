@@ -1,4 +1,6 @@
 // The recorded list, read byte by byte: lines of five numbers (host/recorded/FORMAT.md).
+#![tactic(auto)]
+
 pub mod clear;
 pub mod compare;
 pub mod number;

@@ -1,4 +1,6 @@
 // The recorded list's calls: the line that opens a case, and the lines 10 to 14, whose answers are compared with the machine's.
+#![tactic(auto)]
+
 ghost use Rattle.std.specs.Prelude.{◌≡◌, ◌≤◌, length, take};
 ghost use Rattle.definition.specs.Calls.{called as Calls·called, lent};
 ghost use Rattle.recorded_cases.specs.Room.{Fits};

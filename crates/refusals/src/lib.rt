@@ -1,4 +1,6 @@
 // "Turned back, in checking order": each check answers what the definition's check of the call says.
+#![tactic(auto)]
+
 ghost use Rattle.std.specs.Prelude.{◌≡◌, ◌&&◌, ◌||◌, ◌%◌, length, leb, eqb};
 ghost use Rattle.definition.specs.Memory.{cell_at, cell_count};
 ghost use Rattle.definition.specs.Encoding.{sound};

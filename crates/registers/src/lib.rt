@@ -1,4 +1,6 @@
 // registers.rs, and Computer::set_register of mod.rs. Registers go by value: what is refused leaves the caller's as they were.
+#![tactic(auto)]
+
 ghost use Rattle.std.specs.Prelude.{◌≡◌, ◌<◌};
 ghost use Rattle.definition.specs.Memory.{as_address};
 ghost use Rattle.definition.specs.Registers.{reg_at, get_reg, put_reg, put_pc, put_sp, put_sr, put_flag, supervisor, interrupt_enable, counted, assigned, refused};

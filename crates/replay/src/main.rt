@@ -1,5 +1,7 @@
 // Replays the recorded list (host/recorded/FORMAT.md) from standard input on the proved calls, and says in one line how many cases and
 // calls it held, or what first differs from it.
+#![tactic(auto)]
+
 use libc::STDOUT_FILENO;
 
 mod stream;

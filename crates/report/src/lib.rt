@@ -1,5 +1,7 @@
 // What the runner prints, as text: the eight lines of a run, or a refusal. Each function puts a text behind the first `at` bytes of a buffer
 // and answers where the text ends. 512 bytes hold every text.
+#![tactic(auto)]
+
 ghost use Rattle.std.specs.Prelude.{◌≡◌, [], ◌∷◌, ◌++◌, ◌+◌, ◌≤◌, pos, length, take};
 ghost use Rattle.definition.specs.Constants.{ROW};
 ghost use Rattle.io.specs.Counts.{IsPrefixLen};

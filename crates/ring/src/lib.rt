@@ -1,4 +1,6 @@
 // The journal's ring: its test, the places of its records, its start and its count. A record is written and read elsewhere.
+#![tactic(auto)]
+
 ghost use Rattle.std.specs.Prelude.{◌≡◌, true, ◌≤◌, length};
 ghost use Rattle.definition.specs.Io.{around};
 ghost use Rattle.journal.specs.Journal.{start_of, count_of, records, kept_place, forget_newest, with_start, whole_records, is_journal};

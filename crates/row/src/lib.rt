@@ -1,4 +1,6 @@
 // The row of 20 numbers: its parts read into structs, and written back. Places count from 0 here.
+#![tactic(auto)]
+
 ghost use Rattle.std.specs.Prelude.{◌≡◌, [], ◌+◌, ◌<◌, ◌^◌, pos, nat_abs, length, get_or, set};
 ghost use Rattle.definition.specs.Constants.{ROW, ROW-PC, ROW-SP, ROW-SR, ROW-CYCLES, ROW-ENABLE, ROW-FLAG, ROW-PENDING, ROW-START, ROW-COUNT, ROW-WRITTEN, ROW-INTERVAL, ROW-REMAINING, ROW-MARK};
 ghost use Rattle.definition.specs.Word.{eq_z};

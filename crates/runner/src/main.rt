@@ -1,6 +1,8 @@
 // The runner: reads a start line and a program written as text from standard input, or from the file that its argument names, runs it, and prints the report; of
 // a file that is refused a person's message goes to standard error. No contract can say which bytes a read gives or a write takes: what is read is some
 // text, and what is written is made by `put_input`.
+#![tactic(auto)]
+
 ghost use Rattle.std.specs.Prelude.{◌≡◌, ◌≤◌, length, take, replicate};
 ghost use Rattle.io.specs.Counts.{IsPrefixLen};
 ghost use Rattle.runner.specs.Input.{PartRead, Printed};

@@ -1,5 +1,7 @@
 // Puts every case of the files that its arguments name through the runner's own functions and compares whole texts. A case is a line with two
 // lengths of seven digits, the input's and the output's, then the input and the output.
+#![tactic(auto)]
+
 ghost use Rattle.std.specs.Prelude.{◌≡◌, ◌+◌, ◌≤◌, length, take, replicate};
 ghost use Rattle.io.specs.Counts.{IsPrefixLen};
 ghost use Rattle.runner_cases.specs.Cases.{digit_of, length_at, passing, tally_of, passed_text, verdict_text};

@@ -1,5 +1,7 @@
 // mod.rs in parts: fetch, an instruction with the console's part, the poll, exception entry, and what a step writes. The step and the run are
 // in crate computer.
+#![tactic(auto)]
+
 ghost use Rattle.std.specs.Prelude.{◌≡◌};
 ghost use Rattle.runtime.specs.Meaning.{guard_of};
 

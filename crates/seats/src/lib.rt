@@ -1,4 +1,6 @@
 // What is done with one seat's parts of the four lent buffers: they are checked before the first turn, and run in the seat's turns.
+#![tactic(auto)]
+
 ghost use Rattle.std.specs.Prelude.{◌≡◌, ◌<◌};
 ghost use Rattle.definition.specs.Calls.{called, lent, run_check};
 ghost use Rattle.definition.specs.UserMode.{Accepted};

@@ -1,4 +1,6 @@
 // The runner's file: a start line, then a program written as text, loaded from cell 0.
+#![tactic(auto)]
+
 pub mod message;
 pub mod numeric;
 

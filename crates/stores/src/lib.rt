@@ -1,4 +1,6 @@
 // instructions.rs, the instructions that may write a cell. None writes: each answers the registers and the write that waits.
+#![tactic(auto)]
+
 ghost use Rattle.std.specs.Prelude.{◌≡◌, ◌≤◌};
 ghost use Rattle.definition.specs.Constants.{CELLS-MOST};
 ghost use Rattle.definition.specs.Memory.{cell_count};

@@ -1,4 +1,6 @@
 // The timer on ports 120 and 121 (document 02, Card 14), by value.
+#![tactic(auto)]
+
 ghost use Rattle.std.specs.Prelude.{◌≡◌, false, pos};
 ghost use Rattle.definition.specs.Timer.{with_timer_mark, interval_of, set_timer, tick, tick_entry, read_timer};
 ghost use Rattle.definition.specs.Accepted.{TimerIn};

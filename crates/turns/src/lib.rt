@@ -1,4 +1,6 @@
 // Turn by turn over a bench's list, which stays a lent slice of records. Whatever has the list lent is proved by a walk of its MIR.
+#![tactic(auto)]
+
 ghost use Rattle.std.specs.Prelude.{◌≡◌, ◌<◌, ◌≤◌, length, get_or};
 ghost use Rattle.definition.specs.Calls.{lent, called};
 ghost use Rattle.definition.specs.UserMode.{Accepted};

@@ -1,5 +1,7 @@
 // Where an instruction writes its one cell, found before it is executed: a journal keeps what stood there. Each function is its namesake of
 // stores up to the write.
+#![tactic(auto)]
+
 ghost use Rattle.std.specs.Prelude.{◌≡◌, true, false, List, ◌<◌, ◌≤◌, ℤ};
 ghost use Rattle.definition.specs.declared.Error.TheVariants.{Reset};
 ghost use Rattle.definition.specs.Constants.{CELLS-MOST};

@@ -1,0 +1,5 @@
+use Rattle.word.proofs.Laws.{back}
+use Rattle.checks.proofs.below_at.Goals as goal
+
+pub returns : goal.returns
+returns c = rw (back _ c.z-1.given) at c.is_below.ensures

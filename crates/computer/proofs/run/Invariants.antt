@@ -1,0 +1,16 @@
+use mathlib.Core.Path.{◌≡◌}
+use Prim.Native.Nat.{◌≤◌, ◌-◌}
+use lib.ListN.{length}
+use Rattle.definition.specs.Total.{TOTAL-MOST}
+use Rattle.definition.specs.Runtime.{run, later}
+use Rattle.definition.specs.Accepted.{AcceptedMachine}
+use Rattle.runtime.specs.Meaning.{machine_at}
+use Rattle.computer.specs.Meaning.{NEAR}
+use Rattle.computer.proofs.run.Given as goal
+
+abbrev pub invariant-loop-steps : goal.invariant-loop-steps
+invariant-loop-steps l =
+    (l.steps ≤ l.budget) × ((length l.cells ≡ length l.initial.cells) × ((length l.output ≡ length l.initial.output) × (AcceptedMachine (machine_at l.cells l.queue l.output l.t) × ((later l.steps l.empty (run (l.budget - l.steps) (machine_at l.cells l.queue l.output l.t)) ≡ run l.budget (machine_at l.initial.cells l.queue l.initial.output l.initial.t)) × ((NEAR ≤ l.t.cycles → l.saved ≡ l.t) × (l.empty ≤ TOTAL-MOST))))))
+
+abbrev pub decreases-loop-steps : goal.decreases-loop-steps
+decreases-loop-steps l = l.budget - l.steps

@@ -1,0 +1,6 @@
+use mathlib.Core.Path.{◌∙◌}
+use Rattle.image_run.proofs.Laws.{run-text}
+use Rattle.image_run.proofs.put_image.Goals as goal
+
+pub returns : goal.returns
+returns c = (c.put_run.ensures.0 ∙ run-text c.args.cells.now c.args.s c.put_start.new.0 c.run_image-ran.new.1.0 c.run_image-ran.result c.put_start.ensures c.run_image-ran.ensures.0 c.run_image-ran.ensures.1, c.put_run.ensures.1)

@@ -1,0 +1,14 @@
+use mathlib.Core.List.{[], ◌∷◌}
+use native.Mathlib.Omega.{arith}
+use mir.Facts.{to_z-of_z}
+use Rattle.printing.specs.Decimal.{numeral}
+use Rattle.printing.proofs.Laws.{put_then, numeral-short}
+use Rattle.listing.proofs.line.put_word.Goals as goal
+
+pub put_numeral-requires : goal.put_numeral-requires
+put_numeral-requires c = rw (to_z-of_z c.ranges.w) (omega (arith, numeral-short c.args.w))
+
+pub returns : goal.returns
+returns c = let a = c.args in
+    let e = rw (to_z-of_z c.ranges.w) at c.put_numeral.ensures in
+    (put_then [] (46 ∷ 119 ∷ 111 ∷ 114 ∷ 100 ∷ 32 ∷ []) (numeral a.w) c.put-i.ensures.0 e.0, omega (arith, e.1.0))

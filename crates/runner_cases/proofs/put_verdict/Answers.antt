@@ -1,0 +1,17 @@
+use mathlib.Core.Path.{◌∙◌}
+use native.Mathlib.Omega.{arith}
+use Rattle.io.proofs.Counting.{prefix_len_of_le}
+use Rattle.runner_cases.proofs.Laws.{passed-verdict, ends-verdict}
+use Rattle.runner_cases.proofs.put_verdict.Goals as goal
+
+pub returns-then-t-n : goal.returns-then-t-n
+returns-then-t-n c = let p = c.put_passed.ensures in
+    let i = c in
+    let a = i.args in
+    (p.0 ∙ passed-verdict a.t a.n i.if-t-n.true, p.1)
+
+pub returns : goal.returns
+returns c = let p = c.put.ensures in
+    let i = c in
+    let a = i.args in
+    (p.0 ∙ ends-verdict a.t a.n i.if-t-n.false, prefix_len_of_le _ _ (omega arith))

@@ -1,0 +1,4 @@
+use Rattle.runtime.proofs.perform.done.Goals as goal
+
+pub returns : goal.returns
+returns c = rw c.performed.ensures

@@ -1,0 +1,21 @@
+use Rattle.arguments.specs.Operands.{arg_of}
+use Rattle.arguments.proofs.Laws.{cell-of-is, cell-ok, cell-err}
+use Rattle.journal.specs.Writes.{aim_push_op}
+use Rattle.written.proofs.Laws.{ended}
+use Rattle.written.proofs.push.Goals as goal
+
+pub returns-then-given : goal.returns-then-given
+unfolding aim_push_op
+returns-then-given c =
+    let at-if1 = c in
+    let at-cell-of = at-if1 in
+    let a = at-cell-of.args in let l = a.cells.now in let t = at-cell-of.cell_of-given.result in
+    cell-ok l t (cell-of-is l a.s (arg_of a.x) t at-cell-of.cell_of-given.ensures) _ at-if1.if-given.true (c.push_cell.ensures l)
+
+pub returns : goal.returns
+unfolding aim_push_op
+returns c =
+    let at-if1 = c in
+    let at-cell-of = at-if1 in
+    let a = at-cell-of.args in let l = a.cells.now in let t = at-cell-of.cell_of-given.result in
+    cell-err l t (cell-of-is l a.s (arg_of a.x) t at-cell-of.cell_of-given.ensures) _ at-if1.if-given.false (ended l t.s t.error _ c.ends.ensures)
