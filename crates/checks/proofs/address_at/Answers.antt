@@ -1,5 +1,6 @@
+use borrow.Author.Rules.{rules}
 use Rattle.word.proofs.Laws.{back}
 use Rattle.checks.proofs.address_at.Goals as goal
 
 pub returns : goal.returns
-returns c = rw (back _ c.z-1.given) at c.is_address.ensures
+returns c = rw (back _ (search rules)) at c.is_address.ensures

@@ -17,9 +17,8 @@ overflow_add-magnitude c =
 
 pub returns : goal.returns
 returns c =
-    let start = c in
-    let f = start.ranges.w in
-    let g = start.ranges.z in
+    let f = c.ranges.w in
+    let g = c.ranges.z in
     let e = rw (to_z-of_z f) at c.magnitude.ensures in
-    let z = start.args.z in
-    rw (to_z-of_z g) at c.is_below.ensures ∙ ap (λ (n : ℕ). is_below n z) (ap (λ (n : ℕ). n + 1) e ∙ add-one (nat_abs start.args.w))
+    let z = c.args.z in
+    rw (to_z-of_z g) at c.is_below.ensures ∙ ap (λ (n : ℕ). is_below n z) (ap (λ (n : ℕ). n + 1) e ∙ add-one (nat_abs c.args.w))
