@@ -1,6 +1,6 @@
+use Rattle.std.proofs.Common.{rules}
 use Rattle.word.proofs.Laws.{back}
-use native.Mathlib.Omega.{arith}
 use Rattle.registers.proofs.put_flag.Goals as goal
 
 pub returns : goal.returns
-returns c = rw (c.put_bit.ensures, back c.args.s.sr (omega arith))
+returns c = rw (back c.put_bit.result (search rules), c.put_bit.ensures, back c.args.s.sr (search rules))
