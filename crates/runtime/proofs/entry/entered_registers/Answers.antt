@@ -5,4 +5,4 @@ use Rattle.runtime.proofs.entry.entered_registers.Goals as goal
 
 pub returns : goal.returns
 unfolding entered_registers
-returns c = rw (c.entered_sr.ensures, back c.args.s.sr (omega arith))
+returns c = rw (back c.entered_sr.result c.entered_sr.type_inv, c.entered_sr.ensures, back c.args.s.sr (omega arith))

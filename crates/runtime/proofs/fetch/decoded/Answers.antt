@@ -50,12 +50,8 @@ decode-requires c =
 pub returns : goal.returns
 unfolding extract_instruction or_instruction
 returns c =
-    let else1 = c in
-    let at-struct-told = else1 in
-    let start = at-struct-told in
-    let a = start.args in let v = a.v in
-    let g = at-struct-told.type_inv.v in
-    let b = back v.tag g.0.1 in
-    let h : lt_z v.tag (pos 2) ≡ false = rw b at else1.if-tag-lt2.false in
-    let e = rw (b, back v.first g.1.0.1, back v.second g.1.1.0.1) at c.decode.ensures.0 in
+    let a = c.args in let v = a.v in
+    let b = back v.tag (omega arith) in
+    let h : lt_z v.tag (pos 2) ≡ false = rw b at c.if-tag-lt2.false in
+    let e = rw (b, back v.first (omega arith), back v.second (omega arith)) at c.decode.ensures.0 in
     record { is = λ (l : List ℤ). ap (λ (i : Instruction). ok i (core l a.s)) e ∙ sym (ap (λ (x : Extracted). or_instruction x (core l a.s)) (is_code v.tag v.first v.second h)); known = c.decode.ensures.1; cheap = (let z = ap (λ (i : Instruction). i.cycles) e in let b = decode-small (nat_abs v.tag - 2) v.first v.second in omega arith) }

@@ -12,7 +12,7 @@ use Rattle.runtime.proofs.Laws.{fetch-in, fetch-out}
 use Rattle.runtime.proofs.fetch.fetch.Goals as goal
 
 pub decoded-requires : goal.decoded-requires
-decoded-requires c = let a = c.args in let h : a.s.pc < cell_count a.cells.now = omega arith in ap sound c.get_cell.ensures ∙ c.requires.1 a.s.pc h
+decoded-requires c = let a = c.args in let h : a.s.pc < cell_count a.cells.now = omega arith in ap sound c.get_cell.ensures ∙ c.requires.sound a.s.pc h
 
 pub returns-then-n-cells : goal.returns-then-n-cells
 returns-then-n-cells c = let a = c.args in let l = a.cells.now in let h : a.s.pc < cell_count l = omega arith in
