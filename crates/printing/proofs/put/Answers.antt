@@ -14,11 +14,15 @@ put_byte-k-requires c = omega arith
 
 pub loop-i-preserved : goal.loop-i-preserved
 loop-i-preserved c = let s = c.args.s.now in let l = c.loop-i in let o = c.put_byte-k in
-    (omega arith, omega (arith, o.ensures.1.0), o.auto.0 ∙ l.invariant.2, put_next (take l.k l.out) (get_or s l.i 0 ∷ []) (drop (l.i + 1) s) o.ensures.0 (byte_next s l.i (omega arith)) l.invariant.3, kept_then c.args.out.now l.out o.new.0 l.k o.result (omega (arith, o.ensures.1.0)) l.invariant.4 o.ensures.1.1)
+    (omega arith, omega (arith, o.ensures.value), o.auto.out ∙ l.invariant.2, put_next (take l.k l.out) (get_or s l.i 0 ∷ []) (drop (l.i + 1) s) o.ensures.out_after (byte_next s l.i (omega arith)) l.invariant.3, kept_then c.args.out.now l.out o.new.out l.k o.result (omega (arith, o.ensures.value)) l.invariant.4 o.ensures.out_unchanged)
 
 pub shape_of-out : goal.shape_of-out
 shape_of-out c = c.loop-i.invariant.2
 
 pub returns : goal.returns
 returns c = let l = c.loop-i in
-    (put_last (take l.k l.out) (drop-end c.args.s.now l.i (omega arith)) l.invariant.3, (omega arith, l.invariant.4))
+    record {
+        out_after = put_last (take l.k l.out) (drop-end c.args.s.now l.i (omega arith)) l.invariant.3;
+        value = omega arith;
+        out_unchanged = l.invariant.4
+    }

@@ -7,9 +7,13 @@ use Rattle.printing.proofs.Laws.{decimal-is}
 use Rattle.printing.proofs.put_decimal.Goals as goal
 
 pub put-requires : goal.put-requires
-put-requires c = let d = c.decimal-k in let e = d.ensures.1.1 ∙ decimal-is d.result c.args.n d.ensures.1.0 (omega arith) in
+put-requires c = let d = c.decimal-k in let e = d.ensures.digits ∙ decimal-is d.result c.args.n d.ensures.len (omega arith) in
     rw e c.requires
 
 pub returns : goal.returns
-returns c = let d = c.decimal-k in let a = c.args in let e = d.ensures.1.1 ∙ decimal-is d.result a.n d.ensures.1.0 (omega arith) in
-    (c.put.ensures.0 ∙ ap (λ (t : List ℕ). take a.at a.out.now ++ t) e, (c.put.ensures.1.0 ∙ ap (λ (t : List ℕ). a.at + length t) e, c.put.ensures.1.1))
+returns c = let d = c.decimal-k in let a = c.args in let e = d.ensures.digits ∙ decimal-is d.result a.n d.ensures.len (omega arith) in
+    record {
+        out_after = c.put.ensures.out_after ∙ ap (λ (t : List ℕ). take a.at a.out.now ++ t) e;
+        value = c.put.ensures.value ∙ ap (λ (t : List ℕ). a.at + length t) e;
+        out_unchanged = c.put.ensures.out_unchanged
+    }
