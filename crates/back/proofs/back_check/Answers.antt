@@ -17,8 +17,7 @@ row_check-d-requires c = (omega arith, (omega arith, (cells_fit c.args.cells.now
 
 pub journal_fits-requires : goal.journal_fits-requires
 journal_fits-requires c =
-    let at-if = c in
-    (cells_fit at-if.args.cells.now (sym at-if.cells_fit.ensures ∙ at-if.if-cells_fit.true)).most
+    (cells_fit c.args.cells.now (sym c.cells_fit.ensures ∙ c.if-cells_fit.true)).most
 
 pub count-some-requires : goal.count-some-requires
 count-some-requires c = and_left (is_journal c.args.journal.now) _ (sym c.journal_fits.ensures ∙ c.if-journal_fits.true)
@@ -26,46 +25,31 @@ count-some-requires c = and_left (is_journal c.args.journal.now) _ (sym c.journa
 pub returns-then-journal_fits : goal.returns-then-journal_fits
 unfolding back_check cells_test
 returns-then-journal_fits c =
-    let at_count = c in
-    let at-if3 = at_count in
-    let at-fits = at-if3 in
-    let at-if2 = at-fits in
-    let at_row = at-if2 in
-    let at-if1 = at_row in
-    let at_cells = at-if1 in
-    let a = at_cells.args in
+    let a = c.args in
     let j = a.journal.now in
     let n = cell_count a.cells.now in
-    check-on 21 0 [] c.check.ensures (ap (leb 1) at_count.count-some.ensures) (accept-by c.accept.ensures)
-    ∙ first-passed (test 20 0 (is_journal j && (eqb (count_of j) 0 || is_record n (newest 0 j)))) _ (sym at-fits.journal_fits.ensures ∙ at-if3.if-journal_fits.true)
-    ∙ row-passed 4096 65536 n a.row.now _ (passed-by at_row.row_check-d.ensures at-if2.if-d-eq0.true)
-    ∙ first-passed (cells_test a.cells.now) _ (sym at_cells.cells_fit.ensures ∙ at-if1.if-cells_fit.true)
+    check-on 21 0 [] c.check.ensures (ap (leb 1) c.count-some.ensures) (accept-by c.accept.ensures)
+    ∙ first-passed (test 20 0 (is_journal j && (eqb (count_of j) 0 || is_record n (newest 0 j)))) _ (sym c.journal_fits.ensures ∙ c.if-journal_fits.true)
+    ∙ row-passed 4096 65536 n a.row.now _ (passed-by c.row_check-d.ensures c.if-d-eq0.true)
+    ∙ first-passed (cells_test a.cells.now) _ (sym c.cells_fit.ensures ∙ c.if-cells_fit.true)
 
 pub returns-else-journal_fits : goal.returns-else-journal_fits
 unfolding back_check cells_test
 returns-else-journal_fits c =
-    let at-fits = c in
-    let at-if2 = at-fits in
-    let at_row = at-if2 in
-    let at-if1 = at_row in
-    let at_cells = at-if1 in
-    let a = at_cells.args in
+    let a = c.args in
     let j = a.journal.now in
     let n = cell_count a.cells.now in
-    first-refused (test 20 0 (is_journal j && (eqb (count_of j) 0 || is_record n (newest 0 j)))) _ (sym at-fits.journal_fits.ensures ∙ c.if-journal_fits.false)
-    ∙ row-passed 4096 65536 n a.row.now _ (passed-by at_row.row_check-d.ensures at-if2.if-d-eq0.true)
-    ∙ first-passed (cells_test a.cells.now) _ (sym at_cells.cells_fit.ensures ∙ at-if1.if-cells_fit.true)
+    first-refused (test 20 0 (is_journal j && (eqb (count_of j) 0 || is_record n (newest 0 j)))) _ (sym c.journal_fits.ensures ∙ c.if-journal_fits.false)
+    ∙ row-passed 4096 65536 n a.row.now _ (passed-by c.row_check-d.ensures c.if-d-eq0.true)
+    ∙ first-passed (cells_test a.cells.now) _ (sym c.cells_fit.ensures ∙ c.if-cells_fit.true)
 
 pub returns-else-d-eq0 : goal.returns-else-d-eq0
 unfolding back_check cells_test
 returns-else-d-eq0 c =
-    let at_row = c in
-    let at-if1 = at_row in
-    let at_cells = at-if1 in
-    let a = at_cells.args in
-    at_row.row_check-d.ensures
-    ∙ row-refused 4096 65536 (cell_count a.cells.now) a.row.now _ (refused-by at_row.row_check-d.ensures c.if-d-eq0.false)
-    ∙ first-passed (cells_test a.cells.now) _ (sym at_cells.cells_fit.ensures ∙ at-if1.if-cells_fit.true)
+    let a = c.args in
+    c.row_check-d.ensures
+    ∙ row-refused 4096 65536 (cell_count a.cells.now) a.row.now _ (refused-by c.row_check-d.ensures c.if-d-eq0.false)
+    ∙ first-passed (cells_test a.cells.now) _ (sym c.cells_fit.ensures ∙ c.if-cells_fit.true)
 
 pub returns-else-cells_fit : goal.returns-else-cells_fit
 unfolding back_check cells_test

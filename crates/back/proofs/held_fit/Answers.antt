@@ -14,6 +14,5 @@ loop-i-preserved c = (search rules, one_more _ _ _ c.held_fits-fit.ensures c.loo
 
 pub returns : goal.returns
 returns c =
-    let at = c in
-    let e : at.loop-i.i ≡ at.args.k = omega arith in
-    at.loop-i.invariant.1 ∙ ap (held_fit _ _) e
+    let e : c.loop-i.i ≡ c.args.k = omega arith in
+    c.loop-i.invariant.1 ∙ ap (held_fit _ _) e

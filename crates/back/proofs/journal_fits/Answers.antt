@@ -8,34 +8,21 @@ count-requires c = sym c.is_journal.ensures ∙ c.if-is_journal.true
 
 pub returns-then-count-eq0 : goal.returns-then-count-eq0
 returns-then-count-eq0 c =
-    let at_count = c in
-    let at-if = at_count in
-    let at-journal = at-if in
-    let a = at-journal.args in
-    fits-none a.journal.now a.n at-journal.is_journal.ensures at-if.if-is_journal.true at_count.count.ensures c.if-count-eq0.true
+    let a = c.args in
+    fits-none a.journal.now a.n c.is_journal.ensures c.if-is_journal.true c.count.ensures c.if-count-eq0.true
 
 pub newest-requires : goal.newest-requires
 newest-requires c =
-    let at_count = c in
-    let at-if = at_count in
-    (sym at-if.is_journal.ensures ∙ at-if.if-is_journal.true, kept-some at_count.count.ensures c.if-count-eq0.false)
+    (sym c.is_journal.ensures ∙ c.if-is_journal.true, kept-some c.count.ensures c.if-count-eq0.false)
 
 pub is_record-requires : goal.is_record-requires
 is_record-requires c =
-    let at_count = c in
-    let at-if = at_count in
-    let start = at-if in
-    (ap length c.newest.ensures ∙ newest-length start.args.journal.now (sym at-if.is_journal.ensures ∙ at-if.if-is_journal.true) (kept-some at_count.count.ensures c.if-count-eq0.false), start.requires)
+    (ap length c.newest.ensures ∙ newest-length c.args.journal.now (sym c.is_journal.ensures ∙ c.if-is_journal.true) (kept-some c.count.ensures c.if-count-eq0.false), c.requires)
 
 pub returns-then-is_journal : goal.returns-then-is_journal
 returns-then-is_journal c =
-    let at-newest = c in
-    let at-if2 = at-newest in
-    let at_count = at-if2 in
-    let at-if = at_count in
-    let at-journal = at-if in
-    let a = at-journal.args in
-    fits-some a.journal.now a.n at-journal.is_journal.ensures at-if.if-is_journal.true at_count.count.ensures at-if2.if-count-eq0.false at-newest.newest.ensures c.is_record.ensures
+    let a = c.args in
+    fits-some a.journal.now a.n c.is_journal.ensures c.if-is_journal.true c.count.ensures c.if-count-eq0.false c.newest.ensures c.is_record.ensures
 
 pub returns : goal.returns
 returns c =

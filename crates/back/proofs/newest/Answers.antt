@@ -11,49 +11,41 @@ kept_place-p-requires c =
 
 pub overflow_mul-from : goal.overflow_mul-from
 overflow_mul-from c =
-    let at_count = c in
-    let p = at_count.requires in
-    let l = newest-few _ p.0 p.1 _ _ at_count.count-n.ensures c.kept_place-p.ensures in
+    let p = c.requires in
+    let l = newest-few _ p.0 p.1 _ _ c.count-n.ensures c.kept_place-p.ensures in
     search rules
 
 pub overflow_add-from : goal.overflow_add-from
 overflow_add-from c =
-    let at_count = c in
-    let p = at_count.requires in
-    let l = newest-few _ p.0 p.1 _ _ at_count.count-n.ensures c.kept_place-p.ensures in
+    let p = c.requires in
+    let l = newest-few _ p.0 p.1 _ _ c.count-n.ensures c.kept_place-p.ensures in
     search rules
 
 pub overflow_add-to : goal.overflow_add-to
 overflow_add-to c =
-    let at_count = c in
-    let p = at_count.requires in
-    let l = newest-few _ p.0 p.1 _ _ at_count.count-n.ensures c.kept_place-p.ensures in
+    let p = c.requires in
+    let l = newest-few _ p.0 p.1 _ _ c.count-n.ensures c.kept_place-p.ensures in
     search rules
 
 pub offset_bounds-journal-from : goal.offset_bounds-journal-from
 offset_bounds-journal-from c =
-    let at_count = c in
-    let p = at_count.requires in
-    let l = newest-few _ p.0 p.1 _ _ at_count.count-n.ensures c.kept_place-p.ensures in
+    let p = c.requires in
+    let l = newest-few _ p.0 p.1 _ _ c.count-n.ensures c.kept_place-p.ensures in
     search rules
 
 pub slice_bounds-result-start : goal.slice_bounds-result-start
 slice_bounds-result-start c =
-    let at_count = c in
-    let p = at_count.requires in
-    let l = newest-few _ p.0 p.1 _ _ at_count.count-n.ensures c.kept_place-p.ensures in
+    let p = c.requires in
+    let l = newest-few _ p.0 p.1 _ _ c.count-n.ensures c.kept_place-p.ensures in
     search rules
 
 pub slice_bounds-result-end : goal.slice_bounds-result-end
 slice_bounds-result-end c =
-    let at_count = c in
-    let p = at_count.requires in
-    let l = newest-room _ p.0 p.1 _ _ at_count.count-n.ensures c.kept_place-p.ensures in
+    let p = c.requires in
+    let l = newest-room _ p.0 p.1 _ _ c.count-n.ensures c.kept_place-p.ensures in
     search rules
 
 pub returns : goal.returns
 returns c =
-    let at_place = c in
-    let at_count = at_place in
-    let p = at_count.requires in
-    newest-part _ p.0 p.1 _ _ at_count.count-n.ensures at_place.kept_place-p.ensures
+    let p = c.requires in
+    newest-part _ p.0 p.1 _ _ c.count-n.ensures c.kept_place-p.ensures

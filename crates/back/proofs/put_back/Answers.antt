@@ -10,26 +10,18 @@ use Rattle.back.proofs.put_back.Goals as goal
 
 pub put_cells-requires : goal.put_cells-requires
 put_cells-requires c =
-    let at-number = c in
-    let start = at-number in
-    let r = start.args.kept.now in
-    let n = cell_count start.args.cells.now in
-    let p = start.requires in
-    let e = at-number.number_at-k.ensures in
+    let r = c.args.kept.now in
+    let n = cell_count c.args.cells.now in
+    let p = c.requires in
+    let e = c.number_at-k.ensures in
     (p.0, (subst (λ (k : ℕ). k ≤ 4) (sym e) (few-in n r p.1.1), ap (held_fit n r) e ∙ cells_in n r p.1.1))
 
 pub copy-requires : goal.copy-requires
 copy-requires c =
-    let start = c in
-    let e = ap length c.row_in.ensures ∙ row-length start.args.kept.now start.requires.0 in
-    omega (arith, e, start.requires.1.0)
+    let e = ap length c.row_in.ensures ∙ row-length c.args.kept.now c.requires.0 in
+    omega (arith, e, c.requires.1.0)
 
 pub returns : goal.returns
 returns c =
-    let at_copy = c in
-    let at_part = at_copy in
-    let at_cells = at_part in
-    let at-number = at_cells in
-    let start = at-number in
-    let r = start.args.kept.now in
-    (at_cells.put_cells.ensures ∙ ap (λ (k : ℕ). put_back k r start.args.cells.now) at-number.number_at-k.ensures, row_copied r start.args.row.now start.requires.0 start.requires.1.0 at_part.row_in.ensures at_copy.copy.ensures)
+    let r = c.args.kept.now in
+    (c.put_cells.ensures ∙ ap (λ (k : ℕ). put_back k r c.args.cells.now) c.number_at-k.ensures, row_copied r c.args.row.now c.requires.0 c.requires.1.0 c.row_in.ensures c.copy.ensures)

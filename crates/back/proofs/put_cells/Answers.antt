@@ -11,21 +11,14 @@ loop-left-init c = (search rules, (refl, refl))
 
 pub put_held-requires : goal.put_held-requires
 put_held-requires c =
-    let at_test = c in
-    let at = at_test in
-    let start = at in
-    let v = at.loop-left.invariant in
-    let few : at.loop-left.left ≤ start.args.k = v.0 in
-    (start.requires.0, (search rules, held-within at.loop-left.cells start.args.cells.now start.args.kept.now start.args.k _ v.1.0 start.requires.1.1 (omega arith)))
+    let v = c.loop-left.invariant in
+    let few : c.loop-left.left ≤ c.args.k = v.0 in
+    (c.requires.0, (search rules, held-within c.loop-left.cells c.args.cells.now c.args.kept.now c.args.k _ v.1.0 c.requires.1.1 (omega arith)))
 
 pub loop-left-preserved : goal.loop-left-preserved
 loop-left-preserved c =
-    let at_held = c in
-    let at_test = at_held in
-    let at = at_test in
-    let start = at in
-    let v = at.loop-left.invariant in
-    (search rules, (at_held.put_held.auto.0 ∙ v.1.0, ap (put_back _ start.args.kept.now) at_held.put_held.ensures ∙ put-more start.args.kept.now _ at.loop-left.left at_test.loop-left-test.true ∙ v.1.1))
+    let v = c.loop-left.invariant in
+    (search rules, (c.put_held.auto.0 ∙ v.1.0, ap (put_back _ c.args.kept.now) c.put_held.ensures ∙ put-more c.args.kept.now _ c.loop-left.left c.loop-left-test.true ∙ v.1.1))
 
 pub shape_of-cells : goal.shape_of-cells
 shape_of-cells c = c.loop-left.invariant.1.0

@@ -13,35 +13,25 @@ room-requires c = journal-two _ c.requires
 
 pub returns-then-n-room : goal.returns-then-n-room
 returns-then-n-room c =
-    let at-put = c in
-    let at-if1 = at-put in
-    let at_room = at-if1 in
-    let at_count = at_room in
-    let start = at_count in
-    let j = start.args.journal.now in let n = at_count.count-n.result in let k = at_room.room.result in
-    let s = small j start.requires in
+    let j = c.args.journal.now in let n = c.count-n.result in let k = c.room.result in
+    let s = small j c.requires in
     let few = s.1.0 in
-    let e = at_count.count-n.ensures in
-    let f = at_room.room.ensures in
-    let h : n < k = at-if1.if-n-room.true in
+    let e = c.count-n.ensures in
+    let f = c.room.ensures in
+    let h : n < k = c.if-n-room.true in
     let small-enough : n + 1 < 2 ^ 63 = omega arith in
-    rw (to_z_pos w64 small-enough) at at-put.put.ensures ∙ count-on j n k e f h
+    rw (to_z_pos w64 small-enough) at c.put.ensures ∙ count-on j n k e f h
 
 pub overflow_add-start : goal.overflow_add-start
 overflow_add-start c =
-    let start = c in
-    let s = small _ start.requires in let a = s.0 in let b = s.1.0 in let e = c.start.ensures in search rules
+    let s = small _ c.requires in let a = s.0 in let b = s.1.0 in let e = c.start.ensures in search rules
 
 pub room-requires-2 : goal.room-requires-2
 room-requires-2 c = journal-two _ c.requires
 
 pub overflow_cast-s : goal.overflow_cast-s
 overflow_cast-s c =
-    let at-wrap = c in
-    let at-room2 = at-wrap in
-    let at-start = at-room2 in
-    let start = at-start in
-    let z = start_small start.args.journal.now start.requires at-room2.room-2.result at-start.start.result at-wrap.wrap-s.result at-room2.room-2.ensures at-start.start.ensures at-wrap.wrap-s.ensures in
+    let z = start_small c.args.journal.now c.requires c.room-2.result c.start.result c.wrap-s.result c.room-2.ensures c.start.ensures c.wrap-s.ensures in
     search rules
 
 pub put-requires-2 : goal.put-requires-2
@@ -49,19 +39,11 @@ put-requires-2 c = let t = journal-two _ c.requires in omega arith
 
 pub returns : goal.returns
 returns c =
-    let at-put = c in
-    let at-wrap = at-put in
-    let at-room2 = at-wrap in
-    let at-start = at-room2 in
-    let at-if1 = at-start in
-    let at_room = at-if1 in
-    let at_count = at_room in
-    let start = at_count in
-    let j = start.args.journal.now in let n = at_count.count-n.result in let k = at_room.room.result in let x = at-wrap.wrap-s.result in
-    let e = at-start.start.ensures in
-    let f = at_room.room.ensures in
-    let g = at-room2.room-2.ensures in
-    let y : x ≡ around k (at-start.start.result + 1) = at-wrap.wrap-s.ensures ∙ (λ i. around ((g ∙ sym f) i) (at-start.start.result + 1)) in
-    let z = start_small j start.requires k at-start.start.result x f e y in
+    let j = c.args.journal.now in let n = c.count-n.result in let k = c.room.result in let x = c.wrap-s.result in
+    let e = c.start.ensures in
+    let f = c.room.ensures in
+    let g = c.room-2.ensures in
+    let y : x ≡ around k (c.start.result + 1) = c.wrap-s.ensures ∙ (λ i. around ((g ∙ sym f) i) (c.start.result + 1)) in
+    let z = start_small j c.requires k c.start.result x f e y in
     let small-enough : x < 2 ^ 63 = omega arith in
-    rw (to_z_pos w64 small-enough) at at-put.put-2.ensures ∙ start-on j n k at_count.count-n.ensures f at-start.start.result x at-if1.if-n-room.false e y
+    rw (to_z_pos w64 small-enough) at c.put-2.ensures ∙ start-on j n k c.count-n.ensures f c.start.result x c.if-n-room.false e y

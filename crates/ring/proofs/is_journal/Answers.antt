@@ -14,10 +14,7 @@ below_at-requires-then-is_whole c = let t = whole-two _ (sym c.is_whole.ensures 
 
 pub returns-then-is_whole : goal.returns-then-is_whole
 returns-then-is_whole c =
-    let at-below = c in
-    let at_room = at-below in
-    let at-if1 = at_room in
-    is-journal at-if1.args.journal.now at_room.room-k.result at-below.below_at.result c.below_at-then-is_whole.result (sym at-if1.is_whole.ensures ∙ at-if1.if-is_whole.true) at_room.room-k.ensures at-below.below_at.ensures c.below_at-then-is_whole.ensures
+    is-journal c.args.journal.now c.room-k.result c.below_at.result c.below_at-then-is_whole.result (sym c.is_whole.ensures ∙ c.if-is_whole.true) c.room-k.ensures c.below_at.ensures c.below_at-then-is_whole.ensures
 
 pub returns : goal.returns
 returns c = no-journal c.args.journal.now (sym c.is_whole.ensures ∙ c.if-is_whole.false)

@@ -15,6 +15,4 @@ room-requires c = journal-two _ c.requires.0
 pub returns : goal.returns
 unfolding kept_place
 returns c =
-    let at_room = c in
-    let at-start = at_room in
-    c.wrap.ensures ∙ (λ i. around (at_room.room.ensures i) (at-start.start.ensures i + at-start.args.i))
+    c.wrap.ensures ∙ (λ i. around (c.room.ensures i) (c.start.ensures i + c.args.i))

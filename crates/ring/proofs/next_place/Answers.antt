@@ -6,14 +6,8 @@ room-requires c = journal-two _ c.requires
 
 pub returns-then-n-room : goal.returns-then-n-room
 returns-then-n-room c =
-    let at-if1 = c in
-    let at_room = at-if1 in
-    let at_count = at_room in
-    next-kept at_count.args.journal.now at_count.count-n.result at_room.room.result c.kept_place.result at_count.count-n.ensures at_room.room.ensures at-if1.if-n-room.true c.kept_place.ensures
+    next-kept c.args.journal.now c.count-n.result c.room.result c.kept_place.result c.count-n.ensures c.room.ensures c.if-n-room.true c.kept_place.ensures
 
 pub returns : goal.returns
 returns c =
-    let at-if1 = c in
-    let at_room = at-if1 in
-    let at_count = at_room in
-    next_start at_count.args.journal.now at_count.count-n.result at_room.room.result c.start.result at_count.count-n.ensures at_room.room.ensures at-if1.if-n-room.false c.start.ensures
+    next_start c.args.journal.now c.count-n.result c.room.result c.start.result c.count-n.ensures c.room.ensures c.if-n-room.false c.start.ensures

@@ -12,11 +12,10 @@ use Rattle.ring.proofs.retreat.Goals as goal
 
 pub overflow_cast-n : goal.overflow_cast-n
 overflow_cast-n c =
-    let at_count = c in
-    let s = small _ at_count.requires.0 in
+    let s = small _ c.requires.0 in
     let few = s.1.0 in
     let ci = s.1.1 in
-    let e = at_count.count-n.ensures in
+    let e = c.count-n.ensures in
     search rules
 
 pub put-requires : goal.put-requires
@@ -25,13 +24,10 @@ put-requires c = let t = journal-two _ c.requires.0 in omega arith
 pub returns : goal.returns
 unfolding forget_newest
 returns c =
-    let at-put = c in
-    let at_count = at-put in
-    let start = at_count in
-    let j = start.args.journal.now in let n = at_count.count-n.result in
-    let s = small j start.requires.0 in
+    let j = c.args.journal.now in let n = c.count-n.result in
+    let s = small j c.requires.0 in
     let few = s.1.0 in
     let ci = s.1.1 in
-    let e : n ≡ count_of j = at_count.count-n.ensures in
+    let e : n ≡ count_of j = c.count-n.ensures in
     let small-enough : n - 1 < 2 ^ 63 = omega arith in
-    rw (to_z_pos w64 small-enough) at at-put.put.ensures ∙ ap (λ (i : ℕ). set j 1 (pos (i - 1))) e
+    rw (to_z_pos w64 small-enough) at c.put.ensures ∙ ap (λ (i : ℕ). set j 1 (pos (i - 1))) e

@@ -11,24 +11,15 @@ empty_unless-requires c = journal-two _ (sym c.is_journal.ensures ∙ c.if-is_jo
 pub returns-then-is_journal : goal.returns-then-is_journal
 unfolding load_journal load
 returns-then-is_journal c =
-    let at-empty-unless = c in
-    let at_load = at-empty-unless in
-    let at-if1 = at_load in
-    let at-is-journal = at-if1 in
-    let start = at-is-journal in
-    let a = start.args in
+    let a = c.args in
     let s = a.cells.now in
     let j = a.journal.now in
-    fitting done_number done_answer (load_check s a.image.now a.start) accepted _ s (emptied j) j refl refl (sym at-is-journal.is_journal.ensures ∙ at-if1.if-is_journal.true) at_load.load-d.ensures at-empty-unless.empty_unless.ensures
+    fitting done_number done_answer (load_check s a.image.now a.start) accepted _ s (emptied j) j refl refl (sym c.is_journal.ensures ∙ c.if-is_journal.true) c.load-d.ensures c.empty_unless.ensures
 
 pub returns : goal.returns
 unfolding load_journal load
 returns c =
-    let at-load-check = c in
-    let at-if1 = at-load-check in
-    let at-is-journal = at-if1 in
-    let start = at-is-journal in
-    let a = start.args in
+    let a = c.args in
     let s = a.cells.now in
     let j = a.journal.now in
-    unfitting done_number done_answer (load_check s a.image.now a.start) accepted _ s (emptied j) j (sym at-is-journal.is_journal.ensures ∙ at-if1.if-is_journal.false) at-load-check.load_check.ensures c.no_journal.ensures
+    unfitting done_number done_answer (load_check s a.image.now a.start) accepted _ s (emptied j) j (sym c.is_journal.ensures ∙ c.if-is_journal.false) c.load_check.ensures c.no_journal.ensures

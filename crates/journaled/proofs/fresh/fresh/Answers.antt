@@ -12,26 +12,17 @@ make_unless-requires c = whole-two _ (sym c.is_whole.ensures ∙ c.if-is_whole.t
 pub returns-then-is_whole : goal.returns-then-is_whole
 unfolding fresh_journal fresh
 returns-then-is_whole c =
-    let at-make-unless = c in
-    let at-fresh = at-make-unless in
-    let at-if1 = at-fresh in
-    let at-is-whole = at-if1 in
-    let start = at-is-whole in
-    let a = start.args in
+    let a = c.args in
     let s = a.cells.now in
     let row = a.row.now in
     let j = a.journal.now in
-    fitting done_number done_answer (fresh_check s row) accepted _ (s, row) (with_start 0 (emptied j)) j refl refl (sym at-is-whole.is_whole.ensures ∙ at-if1.if-is_whole.true) at-fresh.fresh-d.ensures at-make-unless.make_unless.ensures
+    fitting done_number done_answer (fresh_check s row) accepted _ (s, row) (with_start 0 (emptied j)) j refl refl (sym c.is_whole.ensures ∙ c.if-is_whole.true) c.fresh-d.ensures c.make_unless.ensures
 
 pub returns : goal.returns
 unfolding fresh_journal fresh
 returns c =
-    let at-fresh-check = c in
-    let at-if1 = at-fresh-check in
-    let at-is-whole = at-if1 in
-    let start = at-is-whole in
-    let a = start.args in
+    let a = c.args in
     let s = a.cells.now in
     let row = a.row.now in
     let j = a.journal.now in
-    unfitting done_number done_answer (fresh_check s row) accepted _ (s, row) (with_start 0 (emptied j)) j (sym at-is-whole.is_whole.ensures ∙ at-if1.if-is_whole.false) at-fresh-check.fresh_check.ensures c.no_journal.ensures
+    unfitting done_number done_answer (fresh_check s row) accepted _ (s, row) (with_start 0 (emptied j)) j (sym c.is_whole.ensures ∙ c.if-is_whole.false) c.fresh_check.ensures c.no_journal.ensures

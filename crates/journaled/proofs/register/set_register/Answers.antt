@@ -12,24 +12,15 @@ empty_unless-requires c = journal-two _ (sym c.is_journal.ensures ∙ c.if-is_jo
 pub returns-then-is_journal : goal.returns-then-is_journal
 unfolding set_register_journal set_register
 returns-then-is_journal c =
-    let at-empty-unless = c in
-    let at-set-register = at-empty-unless in
-    let at-if1 = at-set-register in
-    let at-is-journal = at-if1 in
-    let start = at-is-journal in
-    let a = start.args in
+    let a = c.args in
     let row = a.row.now in
     let j = a.journal.now in
-    fitting done_number done_answer (set_register_check row a.r a.w) accepted _ row (emptied j) j refl refl (sym at-is-journal.is_journal.ensures ∙ at-if1.if-is_journal.true) (rw (to_z-of_z start.ranges.w) at at-set-register.set_register-d.ensures) at-empty-unless.empty_unless.ensures
+    fitting done_number done_answer (set_register_check row a.r a.w) accepted _ row (emptied j) j refl refl (sym c.is_journal.ensures ∙ c.if-is_journal.true) (rw (to_z-of_z c.ranges.w) at c.set_register-d.ensures) c.empty_unless.ensures
 
 pub returns : goal.returns
 unfolding set_register_journal set_register
 returns c =
-    let at-set-register-check = c in
-    let at-if1 = at-set-register-check in
-    let at-is-journal = at-if1 in
-    let start = at-is-journal in
-    let a = start.args in
+    let a = c.args in
     let row = a.row.now in
     let j = a.journal.now in
-    unfitting done_number done_answer (set_register_check row a.r a.w) accepted _ row (emptied j) j (sym at-is-journal.is_journal.ensures ∙ at-if1.if-is_journal.false) (rw (to_z-of_z start.ranges.w) at at-set-register-check.set_register_check.ensures) c.no_journal.ensures
+    unfitting done_number done_answer (set_register_check row a.r a.w) accepted _ row (emptied j) j (sym c.is_journal.ensures ∙ c.if-is_journal.false) (rw (to_z-of_z c.ranges.w) at c.set_register_check.ensures) c.no_journal.ensures

@@ -12,28 +12,19 @@ empty_unless-requires c = journal-two _ (sym c.is_journal.ensures ∙ c.if-is_jo
 pub returns-then-is_journal : goal.returns-then-is_journal
 unfolding drain_journal drain
 returns-then-is_journal c =
-    let at-empty-unless = c in
-    let at-drain = at-empty-unless in
-    let at-if1 = at-drain in
-    let at-is-journal = at-if1 in
-    let start = at-is-journal in
-    let a = start.args in
+    let a = c.args in
     let row = a.row.now in
     let b = a.buffer.now in
     let n = number_of_row ROW-WRITTEN row in
     let j = a.journal.now in
-    fitting drain_number drained_none (drain_check a.output.now row b) (drain_answer accepted n) _ (row, b) (emptied j) j refl refl (sym at-is-journal.is_journal.ensures ∙ at-if1.if-is_journal.true) at-drain.drain-drained.ensures at-empty-unless.empty_unless.ensures
+    fitting drain_number drained_none (drain_check a.output.now row b) (drain_answer accepted n) _ (row, b) (emptied j) j refl refl (sym c.is_journal.ensures ∙ c.if-is_journal.true) c.drain-drained.ensures c.empty_unless.ensures
 
 pub returns : goal.returns
 unfolding drain_journal drain
 returns c =
-    let at-drain-check = c in
-    let at-if1 = at-drain-check in
-    let at-is-journal = at-if1 in
-    let start = at-is-journal in
-    let a = start.args in
+    let a = c.args in
     let row = a.row.now in
     let b = a.buffer.now in
     let n = number_of_row ROW-WRITTEN row in
     let j = a.journal.now in
-    unfitting drain_number drained_none (drain_check a.output.now row b) (drain_answer accepted n) _ (row, b) (emptied j) j (sym at-is-journal.is_journal.ensures ∙ at-if1.if-is_journal.false) at-drain-check.drain_check.ensures c.no_journal-d.ensures
+    unfitting drain_number drained_none (drain_check a.output.now row b) (drain_answer accepted n) _ (row, b) (emptied j) j (sym c.is_journal.ensures ∙ c.if-is_journal.false) c.drain_check.ensures c.no_journal-d.ensures
