@@ -26,28 +26,22 @@ put_byte-i-requires c = omega (arith, simp length-append at c.requires)
 
 pub put_count_line-requires : goal.put_count_line-requires
 put_count_line-requires c =
-    let start = c in
-    omega (arith, start.requires, simp length-append at (ap length (answer-pieces start.args.ran)))
+    omega (arith, c.requires, simp length-append at (ap length (answer-pieces c.args.ran)))
 
 pub returns : goal.returns
 returns c =
-    let at-line = c in
-    let at_byte = at-line in
-    let at-detail = at_byte in
-    let at-stop = at-detail in
-    let at_name = at-stop in
-    let r = at_name.args.ran in
+    let r = c.args.ran in
     let v = line steps_name (pos r.steps ∷ []) in
     let w = (10 ∷ []) ++ v in
     let x = field (pos r.detail) ++ w in
-    let e₁ = at_name.put-i in
-    let e₂ = at-stop.put_count-i in
-    let e₃ = at-detail.put_count-i-2 in
-    let e₄ = at_byte.put_byte-i in (
-      put_then [] stop_name (field (pos r.stop) ++ x) e₁.ensures.0
-          (put_then (take e₁.result e₁.new.0) (field (pos r.stop)) x e₂.ensures.0
-          (put_then (take e₂.result e₂.new.0) (field (pos r.detail)) w e₃.ensures.0
-          (put_then (take e₃.result e₃.new.0) (10 ∷ []) v e₄.ensures.0 at-line.put_count_line.ensures.0)))
-          ∙ sym (answer-pieces r),
-      omega (arith, simp length-append at (ap length (answer-pieces r))),
-    )
+    let e₁ = c.put-i in
+    let e₂ = c.put_count-i in
+    let e₃ = c.put_count-i-2 in
+    let e₄ = c.put_byte-i in record {
+      out_after = put_then [] stop_name (field (pos r.stop) ++ x) e₁.ensures.out_after
+          (put_then (take e₁.result e₁.new.out) (field (pos r.stop)) x e₂.ensures.out_after
+          (put_then (take e₂.result e₂.new.out) (field (pos r.detail)) w e₃.ensures.out_after
+          (put_then (take e₃.result e₃.new.out) (10 ∷ []) v e₄.ensures.out_after c.put_count_line.ensures.out_after)))
+          ∙ sym (answer-pieces r);
+      value = omega (arith, simp length-append at (ap length (answer-pieces r)))
+    }

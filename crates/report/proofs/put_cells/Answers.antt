@@ -30,29 +30,29 @@ pub put_line-i-requires : goal.put_line-i-requires
 unfolding cells_text
 put_line-i-requires c = let s = c in
     let w = s.args.row.now in
-    let k = s.requires.0 in
-    rw (a-of w k) (omega (arith, simp length-append at s.requires.1))
+    let k = s.requires.row_len in
+    rw (a-of w k) (omega (arith, simp length-append at s.requires.row_in_bounds))
 
 pub put_line-i-requires-2 : goal.put_line-i-requires-2
 unfolding cells_text
 put_line-i-requires-2 c = let s = c in
     let w = s.args.row.now in
-    let k = s.requires.0 in
-    rw (b-of w k) (omega (arith, rw (a-of w k) at c.put_line-i.ensures.1, simp length-append at s.requires.1))
+    let k = s.requires.row_len in
+    rw (b-of w k) (omega (arith, rw (a-of w k) at c.put_line-i.ensures.value, simp length-append at s.requires.row_in_bounds))
 
 pub put_line-requires : goal.put_line-requires
 unfolding cells_text
 put_line-requires c = let s = c in
     let w = s.args.row.now in
-    let k = s.requires.0 in
-    rw (out_of w k) (omega (arith, rw (a-of w k) at c.put_line-i.ensures.1, rw (b-of w k) at c.put_line-i-2.ensures.1, simp length-append at s.requires.1))
+    let k = s.requires.row_len in
+    rw (out_of w k) (omega (arith, rw (a-of w k) at c.put_line-i.ensures.value, rw (b-of w k) at c.put_line-i-2.ensures.value, simp length-append at s.requires.row_in_bounds))
 
 pub returns : goal.returns
 unfolding cells_text
 returns c = let s = c in
     let a = s.args in
     let w = a.row.now in
-    let k = s.requires.0 in
+    let k = s.requires.row_len in
     let p = c.put_line-i in
     let e = rw (a-of w k) at p.ensures in
     let f = rw (b-of w k) at c.put_line-i-2.ensures in
@@ -60,4 +60,7 @@ returns c = let s = c in
     let t = line a_name (numbers_from ROW-A w) in
     let u = line b_name (numbers_from ROW-B w) in
     let v = line out_name (at ROW-WRITTEN w ∷ []) in
-    (put_then (take a.at a.out.now) t (u ++ v) e.0 (put_then (take p.result p.new.0) u v f.0 g.0), count a.at t u v e.1 f.1 g.1)
+    record {
+        out_after = put_then (take a.at a.out.now) t (u ++ v) e.out_after (put_then (take p.result p.new.out) u v f.out_after g.out_after);
+        value = count a.at t u v e.value f.value g.value
+    }

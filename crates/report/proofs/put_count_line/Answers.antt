@@ -20,14 +20,11 @@ put_byte-requires c = let a = c.args in omega (arith, simp length-append at (ap 
 
 pub returns : goal.returns
 returns c =
-    let at_byte = c in
-    let at_count = at_byte in
-    let at_name = at_count in
-    let a = at_name.args in
-    let e₁ = at_name.put-i in
-    let e₂ = at_count.put_count-j in
-    let t = field (pos a.n) in (
-      put_then (take a.at a.out.now) a.name.now (t ++ (10 ∷ [])) e₁.ensures.0 (put_then (take e₁.result e₁.new.0) t (10 ∷ []) e₂.ensures.0 at_byte.put_byte.ensures.0)
-          ∙ ap (λ (l : List ℕ). take a.at a.out.now ++ l) (sym (count-pieces a.name.now a.n)),
-      omega (arith, simp length-append at (ap length (count-pieces a.name.now a.n))),
-    )
+    let a = c.args in
+    let e₁ = c.put-i in
+    let e₂ = c.put_count-j in
+    let t = field (pos a.n) in record {
+      out_after = put_then (take a.at a.out.now) a.name.now (t ++ (10 ∷ [])) e₁.ensures.out_after (put_then (take e₁.result e₁.new.out) t (10 ∷ []) e₂.ensures.out_after c.put_byte.ensures.out_after)
+          ∙ ap (λ (l : List ℕ). take a.at a.out.now ++ l) (sym (count-pieces a.name.now a.n));
+      value = omega (arith, simp length-append at (ap length (count-pieces a.name.now a.n)))
+    }

@@ -12,4 +12,7 @@ put_numeral-requires c = rw (to_z-of_z c.ranges.v) (omega arith)
 pub returns : goal.returns
 returns c = let s = c in
     let e = rw (to_z-of_z s.ranges.v) at c.put_numeral.ensures in
-    (put_then (take s.args.at s.args.out.now) (44 ∷ []) (numeral s.args.v) c.put_byte-i.ensures.0 e.0, omega (arith, e.1.0))
+    record {
+        out_after = put_then (take s.args.at s.args.out.now) (44 ∷ []) (numeral s.args.v) c.put_byte-i.ensures.out_after e.out_after;
+        value = omega (arith, e.value)
+    }

@@ -14,11 +14,11 @@ put_answer-i-requires c = let a = c.args in
 
 pub put_registers-j-requires : goal.put_registers-j-requires
 put_registers-j-requires c = let a = c.args in
-    (c.requires.0, omega (arith, seven-fit a.ran a.row.now))
+    record { row_len = c.requires.0; row_in_bounds = omega (arith, seven-fit a.ran a.row.now) }
 
 pub put_cells-k-requires : goal.put_cells-k-requires
 put_cells-k-requires c = let a = c.args in
-    (c.requires.0, omega (arith, seven-fit a.ran a.row.now))
+    record { row_len = c.requires.0; row_in_bounds = omega (arith, seven-fit a.ran a.row.now) }
 
 pub put_count_line-requires : goal.put_count_line-requires
 put_count_line-requires c = let a = c.args in
@@ -27,18 +27,14 @@ put_count_line-requires c = let a = c.args in
 pub returns : goal.returns
 unfolding run_text empty_text
 returns c =
-    let at-empty = c in
-    let at_cells = at-empty in
-    let at-registers = at_cells in
-    let at-answer = at-registers in
-    let a = at-answer.args in
+    let a = c.args in
     let w = a.row.now in
-    let e₁ = at-answer.put_answer-i in
-    let e₂ = at-registers.put_registers-j in
-    let e₃ = at_cells.put_cells-k in
-    let t = empty_text a.ran in (
-      put_then [] (answer_text a.ran) (registers_text w ++ (cells_text w ++ t)) e₁.ensures.0
-          (put_then (take e₁.result e₁.new.0) (registers_text w) (cells_text w ++ t) e₂.ensures.0
-          (put_then (take e₂.result e₂.new.0) (cells_text w) t e₃.ensures.0 at-empty.put_count_line.ensures.0)),
-      prefix_len_of_le _ _ (omega (arith, last_fits a.ran.empty _ _ (seven-fit a.ran w) refl)),
-    )
+    let e₁ = c.put_answer-i in
+    let e₂ = c.put_registers-j in
+    let e₃ = c.put_cells-k in
+    let t = empty_text a.ran in record {
+      out_after = put_then [] (answer_text a.ran) (registers_text w ++ (cells_text w ++ t)) e₁.ensures.out_after
+          (put_then (take e₁.result e₁.new.out) (registers_text w) (cells_text w ++ t) e₂.ensures.out_after
+          (put_then (take e₂.result e₂.new.out) (cells_text w) t e₃.ensures.out_after c.put_count_line.ensures.out_after));
+      prefix_len = prefix_len_of_le _ _ (omega (arith, last_fits a.ran.empty _ _ (seven-fit a.ran w) refl))
+    }
