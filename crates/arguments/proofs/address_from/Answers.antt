@@ -1,5 +1,7 @@
 use mathlib.Core.Path.{◌≡◌, sym, ◌∙◌, ap}
 use lib.IntN.{ℤ, pos, ◌+ℤ◌}
+use lib.Signed.{mag}
+use Prim.Native.Nat.{◌<◌, ◌^◌}
 use mir.Facts.{to_z-of_z}
 use native.Mathlib.Omega.{arith}
 use Rattle.word.proofs.Laws.{back}
@@ -16,7 +18,7 @@ returns-in-Is c =
     let at_base = at-known-told in
     let at-index = at_base in
     let start = at-index in
-    let a = start.args in let w = at_base.in-Is.w in let i = at-index.index-i.result in let h = (omega arith) in
+    let a = start.args in let w = at_base.in-Is.w in let i = at-index.index-i.result in let h : mag w < 2 ^ 63 = omega arith in
     let e : i ≡ index_at a.mode a.number = rw (to_z-of_z start.ranges.number) at at-index.index-i.ensures in
     rw (back w h, back i at-index.index-i.type_inv) at c.sum.ensures ∙ ap (λ (i : ℤ). address_of (wrap (w +ℤ i))) e ∙ from-index a.mode w a.number h ∙ ap (λ (b : Word). address_from a.mode b a.number) (sym at_base.in-Is.is)
 
