@@ -390,6 +390,7 @@ module _ (s : List ℕ) (b : ℕ) (fits : length s < 18446744073709551614) where
       let i : Image 1 (q' ++ []) pc sp sr empty_cells = G.image line G.none in
       let t : q' ++ [] ≡ s ++ (b ∷ []) = rw (append-nil, c) e in
       line-start (subst (λ (j : List ℕ). Image 1 j pc sp sr empty_cells) t i) (omega (arith, longer)) (ap (λ (j : ℕ). state (at j (start_of pc sp sr) 0 x y z no_field) empty_cells) (followed 1 (omega arith)))
+  extended q {p = p} {q' = q'} {m = m} c (lines x22) n e r (starts {pc = pc} {sp = sp} {sr = sr} {x = x} {y = y} {z = z} line) = elim x22 [ ]
   extended q {q' = q'} c (lines {pc = pc} {sp} {sr} (G.image {k} {u = v} {v = w} {m = m} a cs)) n e r (writes {n = na} {t = nt} {f = nf} {s = nw} line) =
       let m' = put_cell m (nat_abs na) (cell nt nf nw) in
       let i : Image (suc (suc k)) (v ++ (w ++ q')) pc sp sr m' = G.image a (G.more cs line) in
@@ -489,6 +490,7 @@ none-good l v nothing h (G.first g) e =
     let o : (foldl step (state opened empty_cells) l).reader.line ≡ 2 = ap (λ (u : State). u.reader.line) b in
     let t = ap (λ (u : State). u.reader.line) (foldl-append step (state opened empty_cells) l v) in
     omega arith
+none-good {k = zero} {p = p} {m = m} l v (lines {pc = pc} {sp = sp} {sr = sr} {x = x} {y = y} {z = z} i) h _ e = elim i [ ]
 none-good l v (lines {k = suc k} {pc = pc} {sp} {sr} {x} {y} {z} {m} i) h (G.later g) e =
     let n = suc k + 1 in
     let st = start_of pc sp sr in

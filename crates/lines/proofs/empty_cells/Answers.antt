@@ -4,4 +4,4 @@ use Rattle.lines.proofs.empty_cells.Goals as goal
 
 -- the number is compared first: where it is another, the refusal names it
 pub returns : goal.returns
-returns c = (all-zero refl refl, refl)
+returns c = record { value = all-zero refl refl; value_2 = refl }

@@ -11,7 +11,7 @@ unfolding digit
 returns-then-is_within c = let m = c.args.r.field.magnitude in
     let d = c.args.d in
     let b = c.args.r.field.minus in
-    let h : leb (m * 10 + d) (limit b) ≡ true = sym (step-within b m d) ∙ (rw c.grown-v.ensures at (sym c.is_Within.ensures)) ∙ c.if-is_within.true in
+    let h : leb (m * 10 + d) (limit b) ≡ true = sym (step-within b m d) ∙ (rw c.grown-v.ensures at (sym c.is_within.ensures)) ∙ c.if-is_within.true in
     rw (c.with_field.ensures, c.grown-v.ensures, step_is b m d h, h)
 
 pub returns : goal.returns
@@ -19,5 +19,5 @@ unfolding digit
 returns c = let m = c.args.r.field.magnitude in
     let d = c.args.d in
     let b = c.args.r.field.minus in
-    let h : leb (m * 10 + d) (limit b) ≡ false = sym (step-within b m d) ∙ (rw c.grown-v.ensures at (sym c.is_Within.ensures)) ∙ c.if-is_within.false in
+    let h : leb (m * 10 + d) (limit b) ≡ false = sym (step-within b m d) ∙ (rw c.grown-v.ensures at (sym c.is_within.ensures)) ∙ c.if-is_within.false in
     rw (c.break_line.ensures, h)

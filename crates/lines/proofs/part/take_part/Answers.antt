@@ -16,7 +16,7 @@ take_byte-q-requires c =
 pub loop-i-preserved : goal.loop-i-preserved
 loop-i-preserved c = let v = c.loop-i in
     let s = c.args.part.now in
-    (search rules, (c.take_byte-q.auto.0 ∙ v.invariant.1.0, fold_more s v.i (state v.q v.cells) _ (omega arith) c.take_byte-q.ensures ∙ v.invariant.1.1))
+    (search rules, (c.take_byte-q.auto.cells ∙ v.invariant.1.0, fold_more s v.i (state v.q v.cells) _ (omega arith) c.take_byte-q.ensures ∙ v.invariant.1.1))
 
 pub shape_of-cells : goal.shape_of-cells
 shape_of-cells c = c.loop-i.invariant.1.0
