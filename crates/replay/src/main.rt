@@ -2,12 +2,12 @@
 // calls it held, or what first differs from it.
 #![tactic(auto)]
 
-use libc::STDOUT_FILENO;
-
 mod stream;
+
+const STDOUT: i32 = 1;
 
 fn main() {
     let mut out = [0u8; 128];
     let n = stream::put_replay(&mut out);
-    io::write_all(STDOUT_FILENO, &out[..n]);
+    io::write_all(STDOUT, &out[..n]);
 }

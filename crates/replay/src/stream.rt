@@ -9,10 +9,11 @@ ghost use Rattle.recorded_cases.specs.Case.{started};
 ghost use Rattle.recorded_calls.specs.Replay.{replay, reading, byte_taken};
 ghost use Rattle.replay.specs.Input.{TextReplayed, Reported};
 
-use libc::STDIN_FILENO;
 use recorded::ROW;
 use recorded_calls::act::{Progress, take_byte};
 use recorded_cases::state::{State, text_end};
+
+const STDIN: i32 = 0;
 
 fn at_start() -> Progress
     ensures { (result.reader ≡ no_line) × (result.state ≡ started) }
@@ -76,7 +77,7 @@ fn take_all(
     let mut p = at_start();
     let mut turns = u64::MAX;
     while turns > 0 {
-        let n = io::read_full(STDIN_FILENO, &mut text);
+        let n = io::read_full(STDIN, &mut text);
         if n == 0 {
             return text_end(p.reader, p.state);
         }

@@ -6,7 +6,14 @@ ghost use Rattle.std.specs.Prelude.{◌≡◌, ◌+◌, ◌≤◌, length, take,
 ghost use Rattle.io.specs.Counts.{IsPrefixLen};
 ghost use Rattle.runner_cases.specs.Cases.{digit_of, length_at, passing, tally_of, passed_text, verdict_text};
 
-use libc::STDOUT_FILENO;
+use std::alloc::Global;
+use std::env;
+use std::fs::File;
+use std::os::fd::AsRawFd;
+
+const STDOUT: i32 = 1;
+
+const STDERR: i32 = 2;
 
 // How far the cases got.
 #[derive(Clone, Copy)]
@@ -80,9 +87,9 @@ fn passes(input: &[u8], due: &[u8]) -> u64
 // Says which case, from 1, did not give its text.
 fn tell(passed: u64, seen: u64) {
     if passed == 0 {
-        io::write_all(STDOUT_FILENO, b"not as due: case ");
-        io::print_decimal(STDOUT_FILENO, seen);
-        io::write_all(STDOUT_FILENO, b"\n");
+        io::write_all(STDOUT, b"not as due: case ");
+        io::print_decimal(STDOUT, seen);
+        io::write_all(STDOUT, b"\n");
     }
 }
 
@@ -139,28 +146,40 @@ fn put_verdict(out: &mut [u8], t: Tally, n: usize) -> usize
     printing::put(out, 0, b": ends within a case\n")
 }
 
+// Says on standard error why the file of that name could not be read, without the error's number.
+fn fail(alloc: Global, name: &str, error: std::io::Error) -> std::io::Result<()> {
+    let said = format!(in alloc; "{error}")?;
+    let text = said.as_str();
+    let why = match text.split_once(" (os error ") {
+        Some((why, _)) => why,
+        None => text,
+    };
+    io::write_all(STDERR, name.as_bytes());
+    io::write_all(STDERR, b": ");
+    io::write_all(STDERR, why.as_bytes());
+    io::write_all(STDERR, b"\n");
+    Ok(())
+}
+
 // Writes the file's name and the verdict. No contract can say what is written: `replay` has the numbers and `put_verdict` the text.
-fn replay_file(i: usize) {
-    let mut path = io::buffer();
-    let k = os::arg(i, &mut path);
-    let fd = os::open_read(&path[..k]);
-    if fd < 0 {
-        os::fail(&path[..k]);
-        return;
-    }
+fn replay_file(rt: &HostRuntime, path: &str) -> std::io::Result<()> {
+    let file = match File::open(rt, path) {
+        Ok(file) => file,
+        Err(e) => return fail(rt.alloc(), path, e),
+    };
     let mut text = space();
-    let n = io::read_full(fd, &mut text);
-    libc::close(fd);
+    let n = io::read_full(file.as_raw_fd(), &mut text);
     let t = replay(&text[..n]);
     let mut out = [0u8; 64];
     let l = put_verdict(&mut out, t, n);
-    io::write_all(STDOUT_FILENO, &path[..k]);
-    io::write_all(STDOUT_FILENO, &out[..l]);
+    io::write_all(STDOUT, path.as_bytes());
+    io::write_all(STDOUT, &out[..l]);
+    Ok(())
 }
 
-fn main() {
-    let n = os::arg_count();
-    for i in 1..n {
-        replay_file(i);
+fn main(rt: HostRuntime) -> std::io::Result<()> {
+    for path in env::args(&rt)?.skip(1) {
+        replay_file(&rt, path.as_str())?;
     }
+    Ok(())
 }
