@@ -1,3 +1,4 @@
+use borrow.Author.Rules.{rules}
 use mathlib.Core.Path.{sym, ap, ◌∙◌}
 use mathlib.Core.List.{List}
 use Prim.Native.Nat.{ℕ}
@@ -17,9 +18,8 @@ unfolding deliver_line
 returns-then-size-s c = let a = c.args in
     let s = a.s in
     let l = a.l in
-    let g = c.type_inv.l in
-    let n = rw (back l.a g.1.0.1) at c.size.ensures in
-    let b = rw (back l.b g.1.1.0.1) at c.to_bits.ensures in
+    let n = rw (back l.a (search rules)) at c.size.ensures in
+    let b = rw (back l.b (search rules)) at c.to_bits.ensures in
     simp (eq-eqb (size_of l.a) s.bytes (sym n ∙ c.if-size-s.true)) (rw (c.called.ensures, c.refusal.ensures, c.refusal-then-size-s.ensures, b) (ap (λ (x : Called Done (List ℕ × List ℤ)). (after_call s 0 (answer x.answer.refusal x.answer.place 0 0 0) (answer (bits l.b) 0 0 0 0), x.left)) c.deliver_in-d.ensures))
 
 pub returns : goal.returns

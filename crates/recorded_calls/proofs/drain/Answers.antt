@@ -1,3 +1,4 @@
+use borrow.Author.Rules.{rules}
 use mathlib.Core.Path.{ap}
 use mathlib.Core.List.{List}
 use Prim.Native.Nat.{ℕ}
@@ -25,9 +26,8 @@ unfolding drain_line
 returns c = let a = c.args in
     let s = a.s in
     let l = a.l in
-    let g = c.type_inv.l in
-    let n = rw (back l.a g.1.0.1) at c.size-n.ensures in
-    let b = rw (back l.b g.1.1.0.1) at c.to_bits.ensures in
-    let z = rw (back l.c g.1.1.1.0.1) at c.to_bits-2.ensures in
+    let n = rw (back l.a (search rules)) at c.size-n.ensures in
+    let b = rw (back l.b (search rules)) at c.to_bits.ensures in
+    let z = rw (back l.c (search rules)) at c.to_bits-2.ensures in
     let x = rw (n, c.clear_bytes.ensures) at c.drain_in-d.ensures in
-    simp (le-ltb 128 (size_of l.a) (rw n at c.if-n-gt128.false)) (rw (c.called.ensures, c.clear_bytes-2.ensures, b, z, n) (ap (λ (x : Called Drained (List ℤ × List ℕ)). (after_call s (size_of l.a) (answer x.answer.refusal x.answer.place 0 0 x.answer.count) (answer (bits l.b) 0 0 0 (bits l.c)), (x.left.0, (x.left.1, replicate (length a.due-buffer.now) 0)))) x))
+    simp (le-ltb 128 (size_of l.a) (rw n at c.if-n-gt128.false)) (rw (c.called.ensures, c.clear_bytes-2.ensures, b, z, n) (ap (λ (x : Called Drained (List ℤ × List ℕ)). (after_call s (size_of l.a) (answer x.answer.refusal x.answer.place 0 0 x.answer.count) (answer (bits l.b) 0 0 0 (bits l.c)), (x.left.0, (x.left.1, replicate (length a.due_buffer.now) 0)))) x))

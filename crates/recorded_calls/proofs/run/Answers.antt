@@ -1,3 +1,4 @@
+use borrow.Author.Rules.{rules}
 use mathlib.Core.Path.{ap}
 use Rattle.definition.specs.declared.Ran.{Ran}
 use Rattle.definition.specs.Calls.{Called, called, Lent}
@@ -14,9 +15,9 @@ returns c =
     let s = a.s in
     let l = a.l in
     let g = told.type_inv.l in
-    let n = rw (back l.a g.1.0.1) at c.to_bits.ensures in
-    let b = rw (back l.b g.1.1.0.1) at c.to_bits-2.ensures in
-    let z = rw (back l.c g.1.1.1.0.1) at c.to_bits-3.ensures in
-    let d = rw (back l.d g.1.1.1.1.0.1) at c.to_bits-4.ensures in
+    let n = rw (back l.a (search rules)) at c.to_bits.ensures in
+    let b = rw (back l.b (search rules)) at c.to_bits-2.ensures in
+    let z = rw (back l.c (search rules)) at c.to_bits-3.ensures in
+    let d = rw (back l.d (search rules)) at c.to_bits-4.ensures in
     let x = rw n at c.run_in-r.ensures in
     rw (c.called.ensures, b, z, d) (ap (λ (x : Called Ran Lent). (after_call s 0 (run_answer x.answer.refusal x.answer.place x.answer.stop x.answer.detail x.answer.steps x.answer.empty) (run_answer 0 0 (bits l.b) (bits l.c) (bits l.d) s.empty), x.left)) x)

@@ -1,3 +1,4 @@
+use borrow.Author.Rules.{rules}
 use mathlib.Core.Path.{sym, ap, ◌∙◌}
 use mathlib.Core.List.{List}
 use lib.IntN.{ℤ}
@@ -20,9 +21,8 @@ unfolding set_line
 returns c = let a = c.args in
     let s = a.s in
     let l = a.l in
-    let g = c.type_inv.l in
-    let t = rw (back l.a g.1.0.1) at c.lt.ensures in
-    let n = rw (back l.a g.1.0.1) at c.to_bits.ensures in
-    let z = rw (back l.c g.1.1.1.0.1) at c.to_bits-2.ensures in
-    let x = rw (n, back l.b g.1.1.0.1) at c.z33_set_register-d.ensures in
+    let t = rw (back l.a (search rules)) at c.lt.ensures in
+    let n = rw (back l.a (search rules)) at c.to_bits.ensures in
+    let z = rw (back l.c (search rules)) at c.to_bits-2.ensures in
+    let x = rw (n, back l.b (search rules)) at c.z33_set_register-d.ensures in
     simp (sym t ∙ c.if-lt.false) (rw (c.called.ensures, c.refusal.ensures, c.refusal-2.ensures, z) (ap (λ (x : Called Done (List ℤ)). (after_call s 0 (answer x.answer.refusal x.answer.place 0 0 0) (answer (bits l.c) 0 0 0 0), x.left)) x))

@@ -4,4 +4,4 @@ use Rattle.runner_cases.proofs.length_at.Goals as goal
 
 pub returns : goal.returns
 unfolding length_at
-returns c = (omega arith, omega arith)
+returns c = record { value = omega arith; upper_bound = omega arith }

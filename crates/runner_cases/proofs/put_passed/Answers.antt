@@ -23,4 +23,4 @@ returns c = let e = c in
     let a = b in
     let z = a in
     let t = z.args.t in
-    (passed-put t z.put-i.ensures.0 a.put_decimal-i.ensures.0 b.put-i-2.ensures.0 d.put_decimal-i-2.ensures.0 e.put_byte.ensures.0, prefix_len_of_le _ _ (omega (arith, decimal-short 20 t.passed, decimal-short 20 t.seen)))
+    record { out_after = passed-put t z.put-i.ensures.out_after a.put_decimal-i.ensures.out_after b.put-i-2.ensures.out_after d.put_decimal-i-2.ensures.out_after e.put_byte.ensures.out_after; prefix_len = prefix_len_of_le _ _ (omega (arith, decimal-short 20 t.passed, decimal-short 20 t.seen)) }

@@ -8,10 +8,10 @@ pub returns-then-t-n : goal.returns-then-t-n
 returns-then-t-n c = let p = c.put_passed.ensures in
     let i = c in
     let a = i.args in
-    (p.0 ∙ passed-verdict a.t a.n i.if-t-n.true, p.1)
+    record { out_after = p.0 ∙ passed-verdict a.t a.n i.if-t-n.true; prefix_len = p.1 }
 
 pub returns : goal.returns
 returns c = let p = c.put.ensures in
     let i = c in
     let a = i.args in
-    (p.0 ∙ ends-verdict a.t a.n i.if-t-n.false, prefix_len_of_le _ _ (omega arith))
+    record { out_after = p.0 ∙ ends-verdict a.t a.n i.if-t-n.false; prefix_len = prefix_len_of_le _ _ (omega arith) }

@@ -12,7 +12,7 @@ loop-at-preserved c = let i = c in
     let a = b in
     let v = a.loop-at in
     let s = a.args.s.now in
-    (omega arith, omega arith, omega (arith, c.passes-one.ensures.1), counted-more s v.at v.seen v.passed a.length_at-a.result b.length_at-b.result v.invariant.3 a.length_at-a.ensures.0 b.length_at-b.ensures.0 c.passes-one.result (omega arith) (omega arith) c.passes-one.ensures.0)
+    (omega arith, omega arith, omega (arith, c.passes-one.ensures.upper_bound), counted-more s v.at v.seen v.passed a.length_at-a.result b.length_at-b.result v.invariant.3 a.length_at-a.ensures.value b.length_at-b.ensures.value c.passes-one.result (omega arith) (omega arith) c.passes-one.ensures.value)
 
 pub returns-after-loop-at : goal.returns-after-loop-at
 returns-after-loop-at c = let v = c.loop-at in
@@ -27,4 +27,4 @@ returns-then-left-a c = let b = c in
     let a = b in
     let v = a.loop-at in
     let s = a.args.s.now in
-    counted-whole s v.at v.seen v.passed a.length_at-a.result b.length_at-b.result v.invariant.3 a.length_at-a.ensures.0 b.length_at-b.ensures.0 (omega arith)
+    counted-whole s v.at v.seen v.passed a.length_at-a.result b.length_at-b.result v.invariant.3 a.length_at-a.ensures.value b.length_at-b.ensures.value (omega arith)

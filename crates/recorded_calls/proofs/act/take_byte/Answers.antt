@@ -13,10 +13,10 @@ pub returns-in-More : goal.returns-in-More
 unfolding byte_taken on_fed
 returns-in-More c = let a = c.args in
     let m = lent a.cells.now a.queue.now a.output.now a.row.now in
-    let d = lent a.due-cells.now a.due-queue.now a.due-output.now a.due-row.now in
+    let d = lent a.due_cells.now a.due_queue.now a.due_output.now a.due_row.now in
     let t = a.bytes.now in
     let b = a.buffer.now in
-    let u = a.due-buffer.now in
+    let u = a.due_buffer.now in
     let w = replay a.p.state m d t b u in
     let f = sym c.fails.ensures ∙ c.if-fails.false in
     let e = sym c.feed-fed.ensures ∙ c.in-More.is in
@@ -26,10 +26,10 @@ pub returns-in-Whole : goal.returns-in-Whole
 unfolding byte_taken on_fed
 returns-in-Whole c = let a = c.args in
     let m = lent a.cells.now a.queue.now a.output.now a.row.now in
-    let d = lent a.due-cells.now a.due-queue.now a.due-output.now a.due-row.now in
+    let d = lent a.due_cells.now a.due_queue.now a.due_output.now a.due_row.now in
     let t = a.bytes.now in
     let b = a.buffer.now in
-    let u = a.due-buffer.now in
+    let u = a.due_buffer.now in
     let w = replay a.p.state m d t b u in
     let f = sym c.fails.ensures ∙ c.if-fails.false in
     let e = sym c.feed-fed.ensures ∙ c.in-Whole.is in
@@ -39,10 +39,10 @@ pub returns-in-Broken : goal.returns-in-Broken
 unfolding byte_taken on_fed
 returns-in-Broken c = let a = c.args in
     let m = lent a.cells.now a.queue.now a.output.now a.row.now in
-    let d = lent a.due-cells.now a.due-queue.now a.due-output.now a.due-row.now in
+    let d = lent a.due_cells.now a.due_queue.now a.due_output.now a.due_row.now in
     let t = a.bytes.now in
     let b = a.buffer.now in
-    let u = a.due-buffer.now in
+    let u = a.due_buffer.now in
     let w = replay a.p.state m d t b u in
     let f = sym c.fails.ensures ∙ c.if-fails.false in
     let e = sym c.feed-fed.ensures ∙ c.in-Broken.is in

@@ -22,11 +22,11 @@ pub loop-i-preserved : goal.loop-i-preserved
 loop-i-preserved c = let v = c.loop-i in
     let h = c.loop-i-test.true in
     let t = c.args.part.now in
-    let s = reading v.p.reader (replay v.p.state (lent v.cells v.queue v.output v.row) (lent v.due-cells v.due-queue v.due-output v.due-row) v.bytes v.buffer v.due-buffer) in
+    let s = reading v.p.reader (replay v.p.state (lent v.cells v.queue v.output v.row) (lent v.due_cells v.due_queue v.due_output v.due_row) v.bytes v.buffer v.due_buffer) in
     let e = c.take_byte-p.ensures in
     (fold_more t v.i s _ (omega (arith, h)) e ∙ v.invariant.0, (omega (arith, h), fits_more s _ _ e v.invariant.1.1))
 
 pub returns : goal.returns
 returns c = let v = c.loop-i in
     let t = c.args.part.now in
-    (v.invariant.1.1, fold_end t v.i (reading v.p.reader (replay v.p.state (lent v.cells v.queue v.output v.row) (lent v.due-cells v.due-queue v.due-output v.due-row) v.bytes v.buffer v.due-buffer)) (omega arith) ∙ v.invariant.0)
+    record { fits = v.invariant.1.1; due_buffer_after = fold_end t v.i (reading v.p.reader (replay v.p.state (lent v.cells v.queue v.output v.row) (lent v.due_cells v.due_queue v.due_output v.due_row) v.bytes v.buffer v.due_buffer)) (omega arith) ∙ v.invariant.0 }
