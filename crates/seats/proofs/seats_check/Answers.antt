@@ -8,12 +8,6 @@ use Rattle.bench.specs.Bench.{machines, benched, seat_by_seat}
 use Rattle.seats.proofs.Checks.{check_from, from_first, seat-passed, seat-refused, all-passed}
 use Rattle.seats.proofs.seats_check.Goals as goal
 
-abbrev PassedSoFar : ℕ → ℕ → Lent → Type 0
-PassedSoFar n k b = (k ≤ n) × (check_from n b k ≡ seat_by_seat 1 (machines n n 0 b))
-
-abbrev from-loop : goal.At-loop-k → goal.Start
-from-loop c = c.before.before.before
-
 pub loop-k-init : goal.loop-k-init
 loop-k-init c =
     let a = c.args in
@@ -21,27 +15,20 @@ loop-k-init c =
 
 pub returns-then-d-ne0 : goal.returns-then-d-ne0
 returns-then-d-ne0 c =
-    let at-check = c in
-    let in-loop = at-check in
-    let at = in-loop in
-    let a = (from-loop at).args in
+    let a = c.args in
     let b = lent a.cells.now a.queues.now a.outputs.now a.rows.now in
-    let k = at.loop-k.k in
-    ap (λ (d : Done). benched d.refusal d.place (k + 1) 0) at-check.seat_check-d.ensures
-    ∙ seat-refused a.n b k in-loop.loop-k-test.true (refused-by at-check.seat_check-d.ensures c.if-d-ne0.true)
-    ∙ at.loop-k.invariant.1
+    let k = c.loop-k.k in
+    ap (λ (d : Done). benched d.refusal d.place (k + 1) 0) c.seat_check-d.ensures
+    ∙ seat-refused a.n b k c.loop-k-test.true (refused-by c.seat_check-d.ensures c.if-d-ne0.true)
+    ∙ c.loop-k.invariant.1
 
 pub loop-k-preserved : goal.loop-k-preserved
 loop-k-preserved c =
-    let at-check = c in
-    let in-loop = at-check in
-    let at = in-loop in
-    let a = (from-loop at).args in
+    let a = c.args in
     let b = lent a.cells.now a.queues.now a.outputs.now a.rows.now in
-    (search rules, seat-passed a.n b at.loop-k.k in-loop.loop-k-test.true (passed-by at-check.seat_check-d.ensures c.if-d-ne0.false) ∙ at.loop-k.invariant.1)
+    (search rules, seat-passed a.n b c.loop-k.k c.loop-k-test.true (passed-by c.seat_check-d.ensures c.if-d-ne0.false) ∙ c.loop-k.invariant.1)
 
 pub returns : goal.returns
 returns c =
-    let at = c in
-    let a = (from-loop at).args in
-    all-passed a.n (lent a.cells.now a.queues.now a.outputs.now a.rows.now) at.loop-k.k c.loop-k-test.false ∙ at.loop-k.invariant.1
+    let a = c.args in
+    all-passed a.n (lent a.cells.now a.queues.now a.outputs.now a.rows.now) c.loop-k.k c.loop-k-test.false ∙ c.loop-k.invariant.1
