@@ -4,8 +4,8 @@ use Rattle.expression.proofs.sized.Goals as goal
 
 pub returns-then-is_within : goal.returns-then-is_within
 unfolding sized_value
-returns-then-is_within c = rw (back c.value.result c.value.type_inv, c.value.ensures, ← c.is_Within.ensures, c.if-is_within.true)
+returns-then-is_within c = rw (back c.value.result c.value.type_inv, c.value.ensures, ← c.is_within.ensures, c.if-is_within.true)
 
 pub returns : goal.returns
 unfolding sized_value
-returns c = rw (← c.is_Within.ensures, c.if-is_within.false)
+returns c = rw (← c.is_within.ensures, c.if-is_within.false)
