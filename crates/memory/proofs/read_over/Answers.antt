@@ -1,5 +1,4 @@
 use mathlib.Core.Path.{sym, ◌∙◌}
-use Rattle.definition.specs.Memory.{get}
 use Rattle.memory.proofs.Laws.{over-same, over-out, over-other}
 use native.Mathlib.Omega.{arith}
 use Rattle.memory.proofs.read_over.Goals as goal
