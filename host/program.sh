@@ -27,12 +27,13 @@ sources() {
   crates | sed 's|.*|crates/&/src crates/&/specs|' | (cd "$here" && xargs sh -c 'find kit.txt crates.txt "$@" -type f -exec b2sum {} + 2>/dev/null' sh)
 }
 
-# Reads what rt says, and shows a line a crate with how many are left; where rt fails, all of it.
+# Reads what rt says, and shows a line a crate with how many are left; where rt fails, all of it. A crate's verdict ends what rt says of it.
 progress() {
-  left=$1 said=
+  left=$1 said= at=
   while IFS= read -r line; do
     case $line in
-      'rt: '*' proved ('*) left=$((left - 1)) && say "${line#rt: }, $left left" ;;
+      'rt: chose '*' for '*) at=${line##* } ;;
+      'logic=proved '*) left=$((left - 1)) && say "$at proved, $left left" ;;
       'rt ended 0') return 0 ;;
     esac
     said="$said$line
@@ -55,7 +56,7 @@ build() {
   trap 'exit 2' HUP INT TERM
   before=$(sources)
   rm -f "$built"
-  { (cd "$here" && rt check "$program") 2>&1 < /dev/null; echo "rt ended $?"; } | progress "$count" || end "$name could not be built"
+  { kit_program "$here" "$program" 2>&1; echo "rt ended $?"; } | progress "$count" || end "$name could not be built"
   [ "$(sources)" = "$before" ] || end "the sources changed while $name was built: start again"
   # What another kit built is never taken for fresh.
   if [ -z "${Z33_ANY_KIT:-}" ]; then

@@ -1,4 +1,4 @@
-//! Links libz33.a from the folder in Z33_LIB_DIR, or from where `rt staticlib z33` writes it.
+//! Links libz33.a from the folder in Z33_LIB_DIR, or from where `./install` puts the one that it builds.
 
 use std::env;
 use std::path::{Path, PathBuf};
@@ -13,7 +13,7 @@ fn main() {
         println!("cargo::rustc-link-lib=static=z33");
     } else {
         println!(
-            "cargo::error=libz33.a is not in {}: rt staticlib z33 writes it, Z33_LIB_DIR names another folder",
+            "cargo::error=libz33.a is not in {}: ./install builds it, Z33_LIB_DIR names another folder",
             folder.display()
         );
     }
