@@ -516,6 +516,19 @@ check-passed n m b =
 from_first : {A : Type 0} (l : List A) (m : ℕ) → drop (0 * m) l ≡ l
 from_first l m = ap (λ (j : ℕ). drop j l) (zero-mul m)
 
+-- what falls at each turn, read from the list
+pub going_in : List Seat → ℕ
+going_in [] = 0
+going_in (s ∷ l) = cond (can_go_on s) 1 0 + going_in l
+
+going-in-list : (xs : List Seated) → going xs ≡ going_in (list_of xs)
+unfolding going going_in list_of
+going-in-list [] = refl
+going-in-list (x ∷ xs) = ap (λ (k : ℕ). cond (can_go_on x.seat) 1 0 + k) (going-in-list xs)
+
+abbrev pub fall : ℕ → List Seat → Clock → ℕ
+fall n l c = cond c.runs (1 + 17 * (c.left + going_in l + cond c.moved 1 0) + (n - c.at)) 0
+
 module _ (n t : ℕ) (list : List Seat) (b : Lent) where
   -- a bench that is refused: no turn is taken
   pub record Refused (list' : List Seat) (b' : Lent) (c : Clock) : Type 0 where
@@ -542,6 +555,12 @@ module _ (n t : ℕ) (list : List Seat) (b : Lent) where
   pub taken-up-variant : (list' : List Seat) (b' : Lent) (c : Clock) (g : Going n t list b list' b' c) → variant list' b' c (taken-up g) ≡ falls n t list b list' b' c g
   unfolding variant
   taken-up-variant list' b' c g = refl
+
+  pub fall_is : (list' : List Seat) (b' : Lent) (c : Clock) (i : Inv list' b' c) → variant list' b' c i ≡ fall n list' c
+  unfolding variant falls
+  fall_is list' b' c (taken-up g) =
+      ap (λ (k : ℕ). cond c.runs (1 + 17 * (c.left + k + cond c.moved 1 0) + (n - c.at)) 0) (going-in-list g.xs ∙ ap going_in (sym g.list-is))
+  fall_is list' b' c (refused r) = sym (ap (λ (k : Bool). cond k (1 + 17 * (c.left + going_in list' + cond c.moved 1 0) + (n - c.at)) 0) r.halted)
 
   pub at-end : (list' : List Seat) (b' : Lent) (c : Clock) → Inv list' b' c → c.runs ≡ false → called (answer c) (list', b') ≡ bench_call n t list b
   at-end list' b' c (taken-up g) h = ended n t list b list' b' c g h

@@ -1,4 +1,4 @@
--- What the walks say of a turn and of the rounds, with no machine in it.
+-- What the proofs say of a turn and of the rounds.
 use mathlib.Core.Path.{◌≡◌, refl, sym, ap, subst, ◌∙◌}
 use mathlib.Core.Bool.{Bool, true, false, cond}
 use mathlib.Core.List.{List}
@@ -16,7 +16,7 @@ use Rattle.bench.specs.Seat.{no_seat, after}
 use Rattle.bench.specs.Bench.{machine_at, taken, finished, bench_of, list_of, buffers_of, benched, bench_check, bench_call}
 use Rattle.bench.specs.Clock.{seated_at, turn_of, next, begun, answer}
 use Rattle.bench.proofs.Laws.{taken-within}
-use Rattle.bench.proofs.Loop.{used-fits, Going, Inv, taken-up, variant, at_turn, at-turn-variant, taken-up-variant, next-turn, accepted-here, in_list as listed}
+use Rattle.bench.proofs.Loop.{used-fits, Going, fall, fall_is, Inv, taken-up, variant, at_turn, at-turn-variant, taken-up-variant, next-turn, accepted-here, in_list as listed}
 use Rattle.turns.specs.Turn.{turn_call}
 
 -- ---- a turn: the seat s is read, the list is then l; it takes t, and the buffers are b'
@@ -73,6 +73,12 @@ module _ (n t : ℕ) (list : List Seat) (b : Lent) (l : List Seat) (d : Lent) (c
 
   pub goes : (z : Called Clock (List Seat × Lent)) → z ≡ turn_call l d c → Long z → Goes z
   goes z e h = subst Goes (sym e) (turn-goes (subst Long e h))
+
+  pub falls_on : (z : Called Clock (List Seat × Lent)) → Goes z → fall n z.left.0 z.answer < fall n l c
+  falls_on z h =
+      let v = fall_is n t list b z.left.0 z.left.1 z.answer h.0 in
+      let w = fall_is n t list b l d c inv in
+      omega (arith, h.1, v, w)
 
 -- ---- the call: a clock begins, and the rounds from it
 module _ (n t : ℕ) (list : List Seat) (b : Lent) where

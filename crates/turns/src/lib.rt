@@ -1,4 +1,4 @@
-// Turn by turn over a bench's list, which stays a lent slice of records. Whatever has the list lent is proved by a walk of its MIR.
+// Turn by turn over a bench's list, which stays a lent slice of records.
 #![tactic(auto)]
 
 ghost use Rattle.std.specs.Prelude.{◌≡◌, ◌<◌, ◌≤◌, length, get_or};

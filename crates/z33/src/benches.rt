@@ -6,7 +6,7 @@ ghost use Rattle.bench.specs.Bench.{bench_call};
 use bench::{Benched, Seat};
 
 // "A whole class runs under one step total. [...] The answer is what is left of the total." The tests are made, and turns are taken until the total is
-// spent or nobody can go on. The list stays lent, so the proof is a walk of its MIR.
+// spent or nobody can go on. The list stays lent.
 #[unsafe(no_mangle)]
 pub extern "C" fn z33_bench(
     list: &mut [Seat],
