@@ -3,6 +3,7 @@ use Rattle.definition.specs.Encoding.{sound}
 use Rattle.word.proofs.Laws.{back}
 use Rattle.encoding.proofs.Sound.{code, code-sound, far}
 use native.Mathlib.Omega.{arith}
+use borrow.Author.Rules.{rules}
 use Rattle.encoding.proofs.is_sound.Goals as goal
 
 pub sound_plain-requires : goal.sound_plain-requires
@@ -11,11 +12,8 @@ sound_plain-requires c = c.if-t-lt2.true
 pub returns-then-t-lt2 : goal.returns-then-t-lt2
 unfolding sound
 returns-then-t-lt2 c =
-    let at-struct-told = c in
-    let start = at-struct-told in
-    let v = start.args.v in
-    let g = at-struct-told.type_inv.v in
-    rw (back v.tag g.0.1, back v.first g.1.0.1, back v.second g.1.1.0.1) at c.sound_plain.ensures
+    let v = c.args.v in
+    rw (back v.tag (search rules), back v.first (search rules), back v.second (search rules)) at c.sound_plain.ensures
 
 pub overflow_cast-t : goal.overflow_cast-t
 overflow_cast-t c =
@@ -44,13 +42,9 @@ sound_instruction-requires c =
 pub returns-then-t-lt29702 : goal.returns-then-t-lt29702
 unfolding sound
 returns-then-t-lt29702 c =
-    let else1 = c in
-    let at-struct-told = else1 in
-    let start = at-struct-told in
-    let v = start.args.v in
-    let g = at-struct-told.type_inv.v in
-    let b = back v.tag g.0.1 in
-    rw (b, back v.first g.1.0.1, back v.second g.1.1.0.1) at c.sound_instruction.ensures ∙ code-sound v.tag v.first v.second (rw b at else1.if-t-lt2.false)
+    let v = c.args.v in
+    let b = back v.tag (omega arith) in
+    rw (b, back v.first (search rules), back v.second (search rules)) at c.sound_instruction.ensures ∙ code-sound v.tag v.first v.second (rw b at c.if-t-lt2.false)
 
 pub returns : goal.returns
 unfolding sound
