@@ -1,21 +1,19 @@
 use mathlib.Core.Path.{◌∙◌, ap}
+use Prim.Native.Nat.{ℕ, ◌+◌, ◌*◌, ◌<◌, ◌^◌}
+use borrow.Author.Rules.{rules}
+use lib.IntN.{ℤ, pos}
+use lib.ListN.{get_or}
 use Rattle.word.proofs.Laws.{back}
 use Rattle.definition.specs.Memory.{cell_at}
 use Rattle.definition.specs.Encoding.{sound}
 use Rattle.encoding.proofs.sound_at.Goals as goal
 
-pub sound_plain-requires : goal.sound_plain-requires
-sound_plain-requires c = c.if-t-lt2.true
-
 pub returns-then-t-lt2 : goal.returns-then-t-lt2
 unfolding sound cell_at
 returns-then-t-lt2 c =
-    let at_second = c in
-    let at_first = at_second in
-    let at-t = at_first in
-    rw (back _ at-t.t-1.given, back _ at_first.sound_plain-arg-1.given, back _ at_second.sound_plain-arg-then-t-lt2-1.given) at c.sound_plain.ensures
+    let i : ℕ = 3 * c.args.n in
+    let cells = c.args.cells.now in
+    rw (back (get_or cells i (pos 0)) (search rules), back (get_or cells (i + 1) (pos 0)) (search rules), back (get_or cells (i + 2) (pos 0)) (search rules)) at c.sound_plain.ensures
 
 pub returns : goal.returns
-returns c =
-    let at-get-cell = c in
-    c.is_sound.ensures ∙ ap sound at-get-cell.get_cell.ensures
+returns c = c.is_sound.ensures ∙ ap sound c.get_cell.ensures
