@@ -7,8 +7,7 @@ use bench::{Benched, Seat};
 
 // "A whole class runs under one step total. [...] The answer is what is left of the total." The tests are made, and turns are taken until the total is
 // spent or nobody can go on. The list stays lent.
-#[unsafe(no_mangle)]
-pub extern "C" fn z33_bench(
+pub fn z33_bench(
     list: &mut [Seat],
     cells: &mut [i64],
     queues: &mut [u8],
@@ -26,8 +25,7 @@ pub extern "C" fn z33_bench(
 }
 
 // "A bench record stored in 32 bits is taken over with every number equal."
-#[unsafe(no_mangle)]
-pub extern "C" fn z33_take_over(limit: u32, used: u32, stop: u32) -> Seat
+pub fn z33_take_over(limit: u32, used: u32, stop: u32) -> Seat
     ensures { result ≡ record { limit = limit; used = used; stop = stop } }
 {
     bench::take_over(limit, used, stop)

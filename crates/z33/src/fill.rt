@@ -5,8 +5,7 @@ ghost use Rattle.exercise.specs.Exercise.{exercise};
 
 use definition::Counted;
 
-#[unsafe(no_mangle)]
-pub extern "C" fn z33_exercise(image: &mut [i64], seed: u64) -> Counted
+pub fn z33_exercise(image: &mut [i64], seed: u64) -> Counted
     ensures { called result image.new ≡ exercise image.old seed }
 {
     exercise::exercise(image, seed)

@@ -4,8 +4,7 @@ ghost use Rattle.definition.specs.Calls.{called, fresh};
 
 use definition::Done;
 
-#[unsafe(no_mangle)]
-pub extern "C" fn z33_fresh(cells: &mut [i64], row: &mut [i64]) -> Done
+pub fn z33_fresh(cells: &mut [i64], row: &mut [i64]) -> Done
     ensures { called result (cells.new, row.new) ≡ fresh cells.old row.old }
 {
     calls::fresh::fresh(cells, row)

@@ -1,4 +1,4 @@
-// The calls on numbers and slices, as exported C functions. Each answers and leaves what the definition's Calls says; the text calls' definitions are
+// The calls on numbers and slices, which crate z33_c exports as C functions. Each answers and leaves what the definition's Calls says; the text calls' definitions are
 // Assemble, in crates/assembly/specs, and Call, in crates/listing/specs, and the exercise load's is Exercise, in crates/exercise/specs.
 #![tactic(auto)]
 

@@ -5,8 +5,7 @@ ghost use Rattle.definition.specs.Calls.{called, raise};
 use definition::Raised;
 
 // A raise that stops changes nothing.
-#[unsafe(no_mangle)]
-pub extern "C" fn z33_raise(cells: &mut [i64], row: &mut [i64], code: u64) -> Raised
+pub fn z33_raise(cells: &mut [i64], row: &mut [i64], code: u64) -> Raised
     ensures { called result (cells.new, row.new) ≡ raise cells.old row.old code }
 {
     let d = refusals::raise_check(cells, row, code);

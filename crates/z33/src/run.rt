@@ -5,8 +5,7 @@ ghost use Rattle.definition.specs.Calls.{called, lent, run_call};
 use definition::Ran;
 
 // The acceptance tests are made once a call; the run works under what they established.
-#[unsafe(no_mangle)]
-pub extern "C" fn z33_run(
+pub fn z33_run(
     cells: &mut [i64],
     queue: &mut [u8],
     output: &mut [u8],

@@ -4,15 +4,13 @@ ghost use Rattle.definition.specs.Calls.{called, deliver, drain};
 
 use definition::{Done, Drained};
 
-#[unsafe(no_mangle)]
-pub extern "C" fn z33_deliver(queue: &mut [u8], row: &mut [i64], bytes: &[u8]) -> Done
+pub fn z33_deliver(queue: &mut [u8], row: &mut [i64], bytes: &[u8]) -> Done
     ensures { called result (queue.new, row.new) ≡ deliver queue.old row.old bytes.now }
 {
     calls::serial::deliver(queue, row, bytes)
 }
 
-#[unsafe(no_mangle)]
-pub extern "C" fn z33_drain(output: &[u8], row: &mut [i64], buffer: &mut [u8]) -> Drained
+pub fn z33_drain(output: &[u8], row: &mut [i64], buffer: &mut [u8]) -> Drained
     ensures { called result (row.new, buffer.new) ≡ drain output.now row.old buffer.old }
 {
     calls::serial::drain(output, row, buffer)

@@ -6,15 +6,13 @@ ghost use Rattle.listing.specs.Call.{list_call};
 
 use definition::Counted;
 
-#[unsafe(no_mangle)]
-pub extern "C" fn z33_assemble(text: &[u8], image: &mut [i64]) -> Counted
+pub fn z33_assemble(text: &[u8], image: &mut [i64]) -> Counted
     ensures { called result image.new ≡ assemble_call text.now image.old }
 {
     assembler::assemble(text, image)
 }
 
-#[unsafe(no_mangle)]
-pub extern "C" fn z33_list(image: &[i64], text: &mut [u8], leave: u64) -> Counted
+pub fn z33_list(image: &[i64], text: &mut [u8], leave: u64) -> Counted
     ensures { called result text.new ≡ list_call leave image.now text.old }
 {
     listing::list(image, text, leave)
