@@ -15,7 +15,7 @@ pub take_label-requires : goal.take_label-requires
 take_label-requires c = (c.loop-at-test.true, c.loop-at.invariant.2)
 
 pub shape_of-labels-then-take_label : goal.shape_of-labels-then-take_label
-shape_of-labels-then-take_label c = c.take_label.auto.1.0 ∙ c.loop-at.invariant.1
+shape_of-labels-then-take_label c = c.take_label.auto.labels ∙ c.loop-at.invariant.1
 
 pub returns-then-take_label : goal.returns-then-take_label
 returns-then-take_label c = let t = rw c.if-take_label.true at c.take_label.ensures in (t.0, lookup-is t.1)
@@ -30,7 +30,7 @@ pub loop-at-smaller : goal.loop-at-smaller
 loop-at-smaller c = let h = c.next_line-at.ensures.on in let i = c.next_line-at.ensures.within in omega arith
 
 pub loop-at-preserved : goal.loop-at-preserved
-loop-at-preserved c = let t = rw c.if-take_label.false at c.take_label.ensures in let h = c.next_line-at.ensures.on in (c.next_line-at.ensures.within, c.take_label.auto.1.0 ∙ c.loop-at.invariant.1, rw (add-one c.loop-at.k) (t c.next_line-at.result (omega arith) c.next_line-at.ensures.text))
+loop-at-preserved c = let t = rw c.if-take_label.false at c.take_label.ensures in let h = c.next_line-at.ensures.on in (c.next_line-at.ensures.within, c.take_label.auto.labels ∙ c.loop-at.invariant.1, rw (add-one c.loop-at.k) (t c.next_line-at.result (omega arith) c.next_line-at.ensures.text))
 
 pub shape_of-labels : goal.shape_of-labels
 shape_of-labels c = c.loop-at.invariant.1

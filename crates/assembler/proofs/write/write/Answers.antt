@@ -29,7 +29,7 @@ pub loop-at-smaller : goal.loop-at-smaller
 loop-at-smaller c = let t = walk-row (lookup c.args.s.now c.args.labels.now) c.args.s.now c.args.count c.loop-at.at c.loop-at.k c.loop-at.invariant.0 c.loop-at-test.true c.in-Is.n (line_told c.args.s.now c.in-Is.l) (sym (ap (line_read_told c.args.s.now) c.in-Is.is) ∙ c.row.ensures.same) (subst (LineIn c.args.s.now) c.in-Is.is c.row.ensures.inside) in let a = t.ahead in let b = t.next.within in omega arith
 
 pub loop-at-preserved : goal.loop-at-preserved
-loop-at-preserved c = let t = walk-row (lookup c.args.s.now c.args.labels.now) c.args.s.now c.args.count c.loop-at.at c.loop-at.k c.loop-at.invariant.0 c.loop-at-test.true c.in-Is.n (line_told c.args.s.now c.in-Is.l) (sym (ap (line_read_told c.args.s.now) c.in-Is.is) ∙ c.row.ensures.same) (subst (LineIn c.args.s.now) c.in-Is.is c.row.ensures.inside) in (t.next, c.put_cell.auto.0 ∙ c.loop-at.invariant.1, put_next c.loop-at.k _ _ (line_told c.args.s.now c.in-Is.l) c.body_cell-v.result c.loop-at.image c.put_cell.new.0 t.here c.body_cell-v.ensures c.put_cell.ensures ∙ c.loop-at.invariant.2)
+loop-at-preserved c = let t = walk-row (lookup c.args.s.now c.args.labels.now) c.args.s.now c.args.count c.loop-at.at c.loop-at.k c.loop-at.invariant.0 c.loop-at-test.true c.in-Is.n (line_told c.args.s.now c.in-Is.l) (sym (ap (line_read_told c.args.s.now) c.in-Is.is) ∙ c.row.ensures.same) (subst (LineIn c.args.s.now) c.in-Is.is c.row.ensures.inside) in (t.next, c.put_cell.auto.cells ∙ c.loop-at.invariant.1, put_next c.loop-at.k _ _ (line_told c.args.s.now c.in-Is.l) c.body_cell-v.result c.loop-at.image c.put_cell.new.cells t.here c.body_cell-v.ensures c.put_cell.ensures ∙ c.loop-at.invariant.2)
 
 pub shape_of-image : goal.shape_of-image
 shape_of-image c = c.loop-at.invariant.1
