@@ -21,7 +21,7 @@ loop-n-preserved c = let i = c.loop-n.invariant in
     let t : c.next_state-s3.result ≡ third_state s = rw (e₃, e₂, e₁) in
     let v : c.cell_of.result ≡ cell_from s = c.cell_of.ensures ∙ cell-drawn s e₁ e₂ e₃ c.draw.ensures c.draw-in-loop-n.ensures c.draw-in-loop-n-2.ensures in
     let m : k - n ≡ suc (k - suc n) = omega arith in
-    (search rules, (c.put_cell.auto.0 ∙ i.1.0, rw (c.put_cell.ensures, add-one) (ap (λ (x : ℕ). take (3 * suc n) (put_cell l n c.cell_of.result) ++ made (k - suc n) x) t ∙ made_more l n (k - suc n) s c.cell_of.result (omega (arith, i.1.0)) v ∙ (rw m at i.1.1))))
+    (search rules, (c.put_cell.auto.cells ∙ i.1.0, rw (c.put_cell.ensures, add-one) (ap (λ (x : ℕ). take (3 * suc n) (put_cell l n c.cell_of.result) ++ made (k - suc n) x) t ∙ made_more l n (k - suc n) s c.cell_of.result (omega (arith, i.1.0)) v ∙ (rw m at i.1.1))))
 
 pub returns : goal.returns
 unfolding made
