@@ -15,7 +15,7 @@ pub returns-then-f : goal.returns-then-f
 returns-then-f c = let a = c.args in
     let l = a.image.now in
     let f = fitting (length (image_text l)) (length a.text.now) c.measure-f.result c.measure-f.ensures c.if-f.true in
-    list-answer a.leave l a.text.now c.answer.result c.write.new.1.0 _ c.answer.ensures f.bytes-are c.write.ensures (sym c.is_image.ensures ∙ c.if-is_image.true) (sym c.has_leave.ensures ∙ c.if-has_leave.true) f.within
+    list-answer a.leave l a.text.now c.answer.result c.write.new.text _ c.answer.ensures f.bytes-are c.write.ensures (sym c.is_image.ensures ∙ c.if-is_image.true) (sym c.has_leave.ensures ∙ c.if-has_leave.true) f.within
 
 pub returns-then-has_leave : goal.returns-then-has_leave
 returns-then-has_leave c = let a = c.args in

@@ -17,7 +17,7 @@ put_name-i-requires c = (omega arith, rw c.mnemonic.ensures (mnemonic-small (op_
 
 pub put_operands-requires : goal.put_operands-requires
 put_operands-requires c = let o = op_number c.args.t in
-    let e = rw (ap spelling c.mnemonic.ensures ∙ mnemonic-is o) at c.put_name-i.ensures.1 in
+    let e = rw (ap spelling c.mnemonic.ensures ∙ mnemonic-is o) at c.put_name-i.ensures.value in
     (omega (arith, e, mnemonic-short o), omega arith)
 
 pub returns : goal.returns
@@ -27,4 +27,4 @@ returns c = let a = c.args in
     let e = rw (ap spelling c.mnemonic.ensures ∙ mnemonic-is o) at c.put_name-i.ensures in
     let g = rw (to_z-of_z c.ranges.first, to_z-of_z c.ranges.second) at c.put_operands.ensures in
     let n = length-append (get_or mnemonics o []) (operands_at a.t a.first a.second) in
-    (put_then [] (get_or mnemonics o []) (operands_at a.t a.first a.second) e.0 g.0, omega (arith, e.1, g.1, n))
+    record { out_after = put_then [] (get_or mnemonics o []) (operands_at a.t a.first a.second) e.out_after g.out_after; value = omega (arith, e.value, g.value, n) }

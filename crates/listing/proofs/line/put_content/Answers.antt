@@ -1,4 +1,5 @@
 use native.Mathlib.Omega.{arith}
+use borrow.Author.Rules.{rules}
 use Rattle.definition.specs.Encoding.{sound}
 use Rattle.word.proofs.Laws.{back}
 use Rattle.listing.proofs.Pieces.{plain-text, code-text, code-tag}
@@ -7,9 +8,8 @@ use Rattle.listing.proofs.line.put_content.Goals as goal
 pub returns-then-t-lt2 : goal.returns-then-t-lt2
 unfolding sound
 returns-then-t-lt2 c = let v = c.args.v in
-    let g = c.type_inv.v in
-    let b = back v.tag g.0.1 in
-    rw (plain-text v.tag v.first v.second c.requires.0 (rw b at c.if-t-lt2.true)) (rw (back v.first g.1.0.1) at c.put_word.ensures)
+    let b = back v.tag (search rules) in
+    rw (plain-text v.tag v.first v.second c.requires.0 (rw b at c.if-t-lt2.true)) (rw (back v.first (search rules)) at c.put_word.ensures)
 
 pub overflow_cast-t : goal.overflow_cast-t
 unfolding sound
@@ -31,6 +31,5 @@ put_code-requires c = let v = c.args.v in
 
 pub returns : goal.returns
 returns c = let v = c.args.v in
-    let g = c.type_inv.v in
-    let b = back v.tag g.0.1 in
-    rw (code-text v.tag v.first v.second (rw b at c.if-t-lt2.false)) (rw (b, back v.first g.1.0.1, back v.second g.1.1.0.1) at c.put_code.ensures)
+    let b = back v.tag (search rules) in
+    rw (code-text v.tag v.first v.second (rw b at c.if-t-lt2.false)) (rw (b, back v.first (search rules), back v.second (search rules)) at c.put_code.ensures)

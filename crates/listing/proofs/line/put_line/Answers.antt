@@ -9,10 +9,10 @@ use Rattle.listing.proofs.Pieces.{content-short}
 use Rattle.listing.proofs.line.put_line.Goals as goal
 
 pub put_byte-requires : goal.put_byte-requires
-put_byte-requires c = let v = c.args.v in omega (arith, c.put_content-i.ensures.1, content-short v.tag v.first v.second)
+put_byte-requires c = let v = c.args.v in omega (arith, c.put_content-i.ensures.value, content-short v.tag v.first v.second)
 
 pub returns : goal.returns
 unfolding line_text
 returns c = let v = c.args.v in
     let n = length-append (cell_text v) (10 ∷ []) in
-    (put_then [] (cell_text v) (10 ∷ []) c.put_content-i.ensures.0 c.put_byte.ensures.0, (omega (arith, n), prefix_len_of_le _ _ (omega (arith, n, content-short v.tag v.first v.second))))
+    record { out_after = put_then [] (cell_text v) (10 ∷ []) c.put_content-i.ensures.out_after c.put_byte.ensures.out_after; value = omega (arith, n); prefix_len = prefix_len_of_le _ _ (omega (arith, n, content-short v.tag v.first v.second)) }

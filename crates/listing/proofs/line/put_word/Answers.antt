@@ -11,4 +11,4 @@ put_numeral-requires c = rw (to_z-of_z c.ranges.w) (omega (arith, numeral-short 
 pub returns : goal.returns
 returns c = let a = c.args in
     let e = rw (to_z-of_z c.ranges.w) at c.put_numeral.ensures in
-    (put_then [] (46 ∷ 119 ∷ 111 ∷ 114 ∷ 100 ∷ 32 ∷ []) (numeral a.w) c.put-i.ensures.0 e.0, omega (arith, e.1.0))
+    record { out_after = put_then [] (46 ∷ 119 ∷ 111 ∷ 114 ∷ 100 ∷ 32 ∷ []) (numeral a.w) c.put-i.ensures.out_after e.out_after; value = omega (arith, e.value) }

@@ -14,13 +14,13 @@ loop-n-init c = (search rules, refl)
 pub returns-then-eq : goal.returns-then-eq
 returns-then-eq c = let l = c.args.image.now in
     let n = c.loop-n.n in
-    let e = rw (back (get_or l (3 * n) (pos 0)) c.t-1.given) at (sym c.eq.ensures ∙ c.if-eq.true) in
+    let e = rw (back (get_or l (3 * n) (pos 0)) (search rules)) at (sym c.eq.ensures ∙ c.if-eq.true) in
     empty-here l n (omega arith) e ∙ c.loop-n.invariant.1
 
 pub loop-n-preserved : goal.loop-n-preserved
 loop-n-preserved c = let l = c.args.image.now in
     let n = c.loop-n.n in
-    let e = rw (back (get_or l (3 * n) (pos 0)) c.t-1.given) at (sym c.eq.ensures ∙ c.if-eq.false) in
+    let e = rw (back (get_or l (3 * n) (pos 0)) (search rules)) at (sym c.eq.ensures ∙ c.if-eq.false) in
     (omega arith, empty-next l n (omega arith) e ∙ c.loop-n.invariant.1)
 
 pub returns : goal.returns

@@ -18,7 +18,7 @@ pub returns-then-room-bytes : goal.returns-then-room-bytes
 returns-then-room-bytes c = let l = c.args.image.now in
     let p = c.loop-n in
     let i = p.invariant.4 in
-    let k = c.put_line-k.ensures.1.0 ∙ ap (λ v. length (line_text v)) c.get_cell.ensures in
+    let k = c.put_line-k.ensures.value ∙ ap (λ v. length (line_text v)) c.get_cell.ensures in
     let j = lines-length l p.n (omega arith) in
     let h = c.if-room-bytes.true in
     fits_not (length (image_text l)) c.args.room (omega arith)
@@ -27,10 +27,10 @@ pub loop-n-preserved : goal.loop-n-preserved
 loop-n-preserved c = let l = c.args.image.now in
     let p = c.loop-n in
     let i = p.invariant.4 in
-    let k = c.put_line-k.ensures.1.0 ∙ ap (λ v. length (line_text v)) c.get_cell.ensures in
+    let k = c.put_line-k.ensures.value ∙ ap (λ v. length (line_text v)) c.get_cell.ensures in
     let j = lines-length l p.n (omega arith) in
     let h = c.if-room-bytes.false in
-    (p.invariant.0 ∙ sym c.put_line-k.auto.0, omega arith, omega arith, undamaged-next l p.n (omega arith) p.invariant.3, omega arith)
+    (p.invariant.0 ∙ sym c.put_line-k.auto.out, omega arith, omega arith, undamaged-next l p.n (omega arith) p.invariant.3, omega arith)
 
 pub returns : goal.returns
 returns c = let l = c.args.image.now in

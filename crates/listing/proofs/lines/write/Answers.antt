@@ -16,7 +16,7 @@ pub put-at-requires : goal.put-at-requires
 put-at-requires c = let l = c.args.image.now in
     let p = c.loop-n in
     let e = c.get_cell.ensures in
-    let t = c.put_line-k.ensures.0 ∙ ap line_text e in
+    let t = c.put_line-k.ensures.out_after ∙ ap line_text e in
     let j = lines-length l p.n (omega arith) in
     let q = p.invariant.3.count in
     let s = p.invariant.3.same in
@@ -28,10 +28,10 @@ loop-n-preserved c = let s = c in
     let l = s.args.image.now in
     let p = c.loop-n in
     let u = c.put_line-k in
-    let t = u.ensures.0 ∙ ap line_text c.get_cell.ensures in
+    let t = u.ensures.out_after ∙ ap line_text c.get_cell.ensures in
     let w = c.put-at in
     let e = rw t at w.ensures in
-    (p.invariant.0 ∙ sym u.auto.0, omega arith, undamaged-next l p.n (omega arith) p.invariant.2, writing-next l s.args.text.now p.text p.n p.at (omega arith) p.invariant.3 w.new.0 w.result e.0 e.1.0 e.1.1 w.auto.0)
+    (p.invariant.0 ∙ sym u.auto.out, omega arith, undamaged-next l p.n (omega arith) p.invariant.2, writing-next l s.args.text.now p.text p.n p.at (omega arith) p.invariant.3 w.new.out w.result e.out_after e.value e.out_unchanged w.auto.out)
 
 pub shape_of-text : goal.shape_of-text
 shape_of-text c = c.loop-n.invariant.3.same

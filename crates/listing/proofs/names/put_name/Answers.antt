@@ -12,10 +12,10 @@ pub loop-n-smaller : goal.loop-n-smaller
 loop-n-smaller c = let z = c.loop-n-test.true in omega arith
 
 pub loop-n-preserved : goal.loop-n-preserved
-loop-n-preserved c = let i = c.loop-n.invariant in let p = c.put_byte-k in spell_next _ _ _ _ _ _ i c.loop-n-test.true p.new.0 p.result p.ensures.0 p.ensures.1.0 p.auto.0
+loop-n-preserved c = let i = c.loop-n.invariant in let p = c.put_byte-k in spell_next _ _ _ _ _ _ i c.loop-n-test.true p.new.out p.result p.ensures.out_after p.ensures.value p.auto.out
 
 pub shape_of-out : goal.shape_of-out
 shape_of-out c = c.loop-n.invariant.same
 
 pub returns : goal.returns
-returns c = let e = spell_last _ _ _ _ _ _ c.loop-n.invariant c.loop-n-test.false in (e.text, e.count)
+returns c = let e = spell_last _ _ _ _ _ _ c.loop-n.invariant c.loop-n-test.false in record { out_after = e.text; value = e.count }

@@ -13,7 +13,7 @@ put_numeral-requires c = rw (to_z-of_z c.ranges.w) (omega (arith, numeral-short 
 pub returns-then-m-eq1 : goal.returns-then-m-eq1
 returns-then-m-eq1 c = let a = c.args in
     let e = rw (to_z-of_z c.ranges.w) at c.put_numeral.ensures in
-    rw (operand-immediate a.m a.r a.w c.if-m-eq1.true) (e.0, e.1.0)
+    rw (operand-immediate a.m a.r a.w c.if-m-eq1.true) record { out_after = e.out_after; value = e.value }
 
 pub returns-then-m-eq2 : goal.returns-then-m-eq2
 returns-then-m-eq2 c = let a = c.args in rw (operand-register a.m a.r a.w c.if-m-eq2.true) c.put_register.ensures
@@ -21,11 +21,11 @@ returns-then-m-eq2 c = let a = c.args in rw (operand-register a.m a.r a.w c.if-m
 pub put_byte-requires : goal.put_byte-requires
 put_byte-requires c = let a = c.args in
     let e = rw (to_z-of_z c.ranges.w) at c.put_inner-j.ensures in
-    omega (arith, e.1, inner-short a.m a.r a.w)
+    omega (arith, e.value, inner-short a.m a.r a.w)
 
 pub returns : goal.returns
 returns c = let a = c.args in
     let e = rw (to_z-of_z c.ranges.w) at c.put_inner-j.ensures in
     let t = inner_text a.m a.r a.w in
     let n = length-append t (93 ∷ []) in
-    rw (operand-square a.m a.r a.w c.requires.2 c.if-m-eq1.false c.if-m-eq2.false) (put_then (take a.at a.out.now) (91 ∷ []) (t ++ (93 ∷ [])) c.put_byte-i.ensures.0 (put_then (take c.put_byte-i.result c.put_byte-i.new.0) t (93 ∷ []) e.0 c.put_byte.ensures.0), omega (arith, e.1, n))
+    rw (operand-square a.m a.r a.w c.requires.2 c.if-m-eq1.false c.if-m-eq2.false) record { out_after = put_then (take a.at a.out.now) (91 ∷ []) (t ++ (93 ∷ [])) c.put_byte-i.ensures.out_after (put_then (take c.put_byte-i.result c.put_byte-i.new.out) t (93 ∷ []) e.out_after c.put_byte.ensures.out_after); value = omega (arith, e.value, n) }

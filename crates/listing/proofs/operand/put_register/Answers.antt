@@ -14,4 +14,4 @@ put_name-requires c = (omega arith, rw c.register.ensures (register-small c.args
 pub returns : goal.returns
 returns c = let a = c.args in
     let e = rw (ap spelling c.register.ensures ∙ register-is a.r) at c.put_name.ensures in
-    (put_then (take a.at a.out.now) (37 ∷ []) (get_or registers a.r []) c.put_byte-i.ensures.0 e.0, omega (arith, e.1))
+    record { out_after = put_then (take a.at a.out.now) (37 ∷ []) (get_or registers a.r []) c.put_byte-i.ensures.out_after e.out_after; value = omega (arith, e.value) }

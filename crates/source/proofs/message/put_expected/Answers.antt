@@ -8,7 +8,7 @@ put-requires c = rw (expected-12 c.args.number c.if-number-eq12.true) at c.requi
 
 pub returns-then-number-eq12 : goal.returns-then-number-eq12
 unfolding start_text
-returns-then-number-eq12 c = rw (expected-12 c.args.number c.if-number-eq12.true) (c.put.ensures.0, c.put.ensures.1.0)
+returns-then-number-eq12 c = rw (expected-12 c.args.number c.if-number-eq12.true) record { err_after = c.put.ensures.out_after; value = c.put.ensures.value }
 
 pub put-requires-then-number-eq13 : goal.put-requires-then-number-eq13
 unfolding grammar_text
@@ -16,7 +16,7 @@ put-requires-then-number-eq13 c = rw (expected-13 c.args.number c.if-number-eq13
 
 pub returns-then-number-eq13 : goal.returns-then-number-eq13
 unfolding grammar_text
-returns-then-number-eq13 c = rw (expected-13 c.args.number c.if-number-eq13.true) (c.put-then-number-eq13.ensures.0, c.put-then-number-eq13.ensures.1.0)
+returns-then-number-eq13 c = rw (expected-13 c.args.number c.if-number-eq13.true) record { err_after = c.put-then-number-eq13.ensures.out_after; value = c.put-then-number-eq13.ensures.value }
 
 pub put-requires-then-number-eq14 : goal.put-requires-then-number-eq14
 unfolding label_text
@@ -24,7 +24,7 @@ put-requires-then-number-eq14 c = rw (expected-14 c.args.number c.if-number-eq14
 
 pub returns-then-number-eq14 : goal.returns-then-number-eq14
 unfolding label_text
-returns-then-number-eq14 c = rw (expected-14 c.args.number c.if-number-eq14.true) (c.put-then-number-eq14.ensures.0, c.put-then-number-eq14.ensures.1.0)
+returns-then-number-eq14 c = rw (expected-14 c.args.number c.if-number-eq14.true) record { err_after = c.put-then-number-eq14.ensures.out_after; value = c.put-then-number-eq14.ensures.value }
 
 pub put-requires-then-number-eq18 : goal.put-requires-then-number-eq18
 unfolding numbers_text
@@ -32,7 +32,7 @@ put-requires-then-number-eq18 c = rw (expected-18 c.args.number c.if-number-eq18
 
 pub returns-then-number-eq18 : goal.returns-then-number-eq18
 unfolding numbers_text
-returns-then-number-eq18 c = rw (expected-18 c.args.number c.if-number-eq18.true) (c.put-then-number-eq18.ensures.0, c.put-then-number-eq18.ensures.1.0)
+returns-then-number-eq18 c = rw (expected-18 c.args.number c.if-number-eq18.true) record { err_after = c.put-then-number-eq18.ensures.out_after; value = c.put-then-number-eq18.ensures.value }
 
 pub put-requires-2 : goal.put-requires-2
 unfolding value_text
@@ -40,4 +40,4 @@ put-requires-2 c = rw (expected-15 c.args.number c.if-number-eq12.false c.if-num
 
 pub returns : goal.returns
 unfolding value_text
-returns c = rw (expected-15 c.args.number c.if-number-eq12.false c.if-number-eq13.false c.if-number-eq14.false c.if-number-eq18.false) (c.put-2.ensures.0, c.put-2.ensures.1.0)
+returns c = rw (expected-15 c.args.number c.if-number-eq12.false c.if-number-eq13.false c.if-number-eq14.false c.if-number-eq18.false) record { err_after = c.put-2.ensures.out_after; value = c.put-2.ensures.value }

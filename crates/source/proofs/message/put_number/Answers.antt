@@ -16,4 +16,7 @@ put_decimal-requires c = omega (arith, simp length-append at c.requires)
 pub returns : goal.returns
 unfolding number_text
 returns c = let a = c.args in
-    (put_then (take a.at a.err.now) line_name (decimal a.place) c.put-i.ensures.0 c.put_decimal.ensures.0, simp length-append (omega arith))
+    record {
+        err_after = put_then (take a.at a.err.now) line_name (decimal a.place) c.put-i.ensures.out_after c.put_decimal.ensures.out_after;
+        value = simp length-append (omega arith)
+    }
