@@ -26,7 +26,7 @@ returns-then-x-y c =
 
 pub loop-i-preserved : goal.loop-i-preserved
 loop-i-preserved c =
-    let e : get_or c.args.a.now c.loop-i.i (pos 0) ≡ get_or c.args.b.now c.loop-i.i (pos 0) = sym (to_z-of_z {w = w64} (record { sfits = c.x-1.given })) ∙ ap (to_z w64) c.if-x-y.false ∙ to_z-of_z {w = w64} (record { sfits = c.y-1.given }) in
+    let e : get_or c.args.a.now c.loop-i.i (pos 0) ≡ get_or c.args.b.now c.loop-i.i (pos 0) = sym (to_z-of_z {w = w64} (record { sfits = search rules })) ∙ ap (to_z w64) c.if-x-y.false ∙ to_z-of_z {w = w64} (record { sfits = search rules }) in
     (search rules, below_more _ _ c.loop-i.invariant.1 e)
 
 pub returns : goal.returns

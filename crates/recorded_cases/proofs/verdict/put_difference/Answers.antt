@@ -29,4 +29,4 @@ pub returns : goal.returns
 unfolding difference_text
 returns c = let s = c.args.s in
     let f = fault_text s.fault in
-    record { out_after = put_then [] case_name (decimal s.cases ++ (line_name ++ (decimal s.lines ++ (colon ++ f)))) c.put-i.ensures.out_after (put_then (take c.put-i.result c.put-i.new.0) (decimal s.cases) (line_name ++ (decimal s.lines ++ (colon ++ f))) c.put_decimal-i.ensures.out_after (put_then (take c.put_decimal-i.result c.put_decimal-i.new.0) line_name (decimal s.lines ++ (colon ++ f)) c.put-i-2.ensures.out_after (put_then (take c.put-i-2.result c.put-i-2.new.0) (decimal s.lines) (colon ++ f) c.put_decimal-i-2.ensures.out_after (put_then (take c.put_decimal-i-2.result c.put_decimal-i-2.new.0) colon f c.put-i-3.ensures.out_after c.put_fault.ensures.out_after)))); prefix_len = c.put_fault.ensures.prefix_len }
+    record { out_after = put_then [] case_name (decimal s.cases ++ (line_name ++ (decimal s.lines ++ (colon ++ f)))) c.put-i.ensures.out_after (put_then (take c.put-i.result c.put-i.new.out) (decimal s.cases) (line_name ++ (decimal s.lines ++ (colon ++ f))) c.put_decimal-i.ensures.out_after (put_then (take c.put_decimal-i.result c.put_decimal-i.new.out) line_name (decimal s.lines ++ (colon ++ f)) c.put-i-2.ensures.out_after (put_then (take c.put-i-2.result c.put-i-2.new.out) (decimal s.lines) (colon ++ f) c.put_decimal-i-2.ensures.out_after (put_then (take c.put_decimal-i-2.result c.put_decimal-i-2.new.out) colon f c.put-i-3.ensures.out_after c.put_fault.ensures.out_after)))); prefix_len = c.put_fault.ensures.prefix_len }

@@ -25,4 +25,4 @@ put-requires c = omega (arith, decimal-short 20 c.args.s.cases, decimal-short 20
 pub returns : goal.returns
 unfolding numbers_text
 returns c = let s = c.args.s in
-    record { out_after = put_then [] (decimal s.cases) (cases_name ++ (decimal s.calls ++ calls_name)) c.put_decimal-i.ensures.out_after (put_then (take c.put_decimal-i.result c.put_decimal-i.new.0) cases_name (decimal s.calls ++ calls_name) c.put-i.ensures.out_after (put_then (take c.put-i.result c.put-i.new.0) (decimal s.calls) calls_name c.put_decimal-i-2.ensures.out_after c.put.ensures.out_after)); prefix_len = prefix_len_of_le _ _ (omega (arith, decimal-short 20 s.cases, decimal-short 20 s.calls)) }
+    record { out_after = put_then [] (decimal s.cases) (cases_name ++ (decimal s.calls ++ calls_name)) c.put_decimal-i.ensures.out_after (put_then (take c.put_decimal-i.result c.put_decimal-i.new.out) cases_name (decimal s.calls ++ calls_name) c.put-i.ensures.out_after (put_then (take c.put-i.result c.put-i.new.out) (decimal s.calls) calls_name c.put_decimal-i-2.ensures.out_after c.put.ensures.out_after)); prefix_len = prefix_len_of_le _ _ (omega (arith, decimal-short 20 s.cases, decimal-short 20 s.calls)) }

@@ -5,7 +5,7 @@ use Rattle.recorded_cases.proofs.verdict.put_verdict.Goals as goal
 -- src/verdict.rt:72:9
 pub returns-then-fails : goal.returns-then-fails
 unfolding verdict_text
-returns-then-fails c = (simp (sym c.fails.ensures ∙ c.if-fails.true) c.put_difference.ensures.out_after, c.put_difference.ensures.prefix_len)
+returns-then-fails c = record { out_after = simp (sym c.fails.ensures ∙ c.if-fails.true) c.put_difference.ensures.out_after; prefix_len = c.put_difference.ensures.prefix_len }
 
 -- src/verdict.rt:65:1
 pub returns : goal.returns
