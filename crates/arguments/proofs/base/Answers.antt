@@ -3,6 +3,7 @@ use Prim.Native.Nat.{ℕ}
 use Rattle.definition.specs.Memory.{extract_word}
 use Rattle.arguments.specs.Operands.{base_at}
 use Rattle.arguments.proofs.Laws.{base-else}
+use native.Mathlib.Omega.{arith}
 use Rattle.arguments.proofs.base.Goals as goal
 
 pub returns-in-3 : goal.returns-in-3
@@ -30,4 +31,4 @@ pub returns-in_default : goal.returns-in_default
 returns-in_default c =
     let at-extract-word = c in
     let start = at-extract-word in
-    let a = start.args in let n = c.in_default.in_default-own.rest in base-else (extract_word a.v) a.mode n.0.0.1 n.0.1 n.1
+    let a = start.args in base-else (extract_word a.v) a.mode (λ e. omega arith) (λ e. omega arith) (λ e. omega arith)

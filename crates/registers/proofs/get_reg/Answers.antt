@@ -23,4 +23,4 @@ returns-in-4 c = let s = c.args.s in rw (back s.sr (omega arith)) at c.word_cell
 
 pub returns-in_default : goal.returns-in_default
 unfolding get_reg
-returns-in_default c = let n = c.in_default.in_default-own.rest in ap (λ (r : Reg). get_reg r c.args.s) (reg-else _ n.0.0.0.1 n.0.0.1 n.0.1 n.1)
+returns-in_default c = ap (λ (r : Reg). get_reg r c.args.s) (reg-else c.args.r (λ e. omega arith) (λ e. omega arith) (λ e. omega arith) (λ e. omega arith))

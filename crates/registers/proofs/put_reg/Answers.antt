@@ -4,6 +4,7 @@ use Rattle.definition.specs.Memory.{as_address, extract_address}
 use Rattle.definition.specs.Registers.{put_pc, put_sp, put_sr, supervisor, counted, put_reg, reg_at, Reg}
 use Rattle.registers.specs.Meaning.{settled}
 use Rattle.registers.proofs.Laws.{reg-is, reg-else}
+use native.Mathlib.Omega.{arith}
 use Rattle.registers.proofs.put_reg.Goals as goal
 
 pub returns-in-1 : goal.returns-in-1
@@ -24,4 +25,4 @@ returns-in-4 c = let a = c.args in c.put_sr.ensures ∙ ap (λ (w : Word). settl
 
 pub returns-in_default : goal.returns-in_default
 unfolding put_reg
-returns-in_default c = let a = c.args in let n = c.in_default.in_default-own.rest in c.accept-in_default.ensures ∙ ap (λ (r : Reg). settled a.s (put_reg r a.v a.s)) (reg-else _ n.0.0.0.1 n.0.0.1 n.0.1 n.1)
+returns-in_default c = let a = c.args in c.accept-in_default.ensures ∙ ap (λ (r : Reg). settled a.s (put_reg r a.v a.s)) (reg-else a.r (λ e. omega arith) (λ e. omega arith) (λ e. omega arith) (λ e. omega arith))

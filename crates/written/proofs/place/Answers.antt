@@ -5,6 +5,7 @@ use Rattle.definition.specs.Registers.{reg_at}
 use Rattle.arguments.specs.Operands.{arg_of}
 use Rattle.journal.specs.Writes.{aim_push, aim_push_op, aim_st, aim_fas, aim_swap, aim}
 use Rattle.written.proofs.Laws.{ended, arm, others}
+use native.Mathlib.Omega.{arith}
 use Rattle.written.proofs.place.Goals as goal
 
 pub returns-in-2 : goal.returns-in-2
@@ -45,6 +46,6 @@ returns-in-30 c =
 pub returns-in_default : goal.returns-in_default
 returns-in_default c =
     let start = c in
-    let a = start.args in let l = a.cells.now in let rest = c.in_default.in_default-own.rest in
+    let a = start.args in let l = a.cells.now in
     ended l a.s InvalidInstruction c.ends.result c.ends.ensures
-    ∙ others a.op start.requires rest.0.0.0.0.1 rest.0.0.0.1 rest.0.0.1 rest.0.1 rest.1 (arg_of a.x) (arg_of a.y) (reg_at a.x.reg) (reg_at a.y.reg) l a.s
+    ∙ others a.op start.requires (λ e. omega arith) (λ e. omega arith) (λ e. omega arith) (λ e. omega arith) (λ e. omega arith) (arg_of a.x) (arg_of a.y) (reg_at a.x.reg) (reg_at a.y.reg) l a.s

@@ -1,5 +1,6 @@
 use Rattle.instructions.specs.Jumps.{test_at}
 use Rattle.instructions.proofs.Laws.{test-is, test-else}
+use native.Mathlib.Omega.{arith}
 use Rattle.instructions.proofs.jumps.is_taken.Goals as goal
 
 pub returns-in-8 : goal.returns-in-8
@@ -27,4 +28,4 @@ unfolding test_at
 returns-in-13 c = let a = c.args in test-is a.op 13 a.z a.n c.in-13.is
 
 pub returns-in_default : goal.returns-in_default
-returns-in_default c = let a = c.args in let n = c.in_default.in_default-own.rest in test-else a.op a.z a.n n.0.0.0.0.0.1 n.0.0.0.0.1 n.0.0.0.1 n.0.0.1 n.0.1 n.1
+returns-in_default c = let a = c.args in test-else a.op a.z a.n (λ e. omega arith) (λ e. omega arith) (λ e. omega arith) (λ e. omega arith) (λ e. omega arith) (λ e. omega arith)
