@@ -1,9 +1,7 @@
 -- Texts and what is made of them, computed. Assumes nothing.
 use mathlib.Core.Path.{◌≡◌, refl}
-use mathlib.Core.Bool.{Bool}
-use mathlib.Core.List.{List, [], ◌∷◌}
-use Prim.Native.Nat.{ℕ}
-use lib.IntN.{ℤ, pos, negsuc}
+use mathlib.Core.List.{[], ◌∷◌}
+use lib.IntN.{pos, negsuc}
 use Rattle.definition.specs.Memory.{cell}
 use Rattle.definition.specs.Word.{wrap, is_word, wrapped, address_of}
 use Rattle.definition.specs.Encoding.{tag_of, op_at, allows, signature, legal, is_address}

@@ -1,18 +1,16 @@
 -- The statements of Theorems. Assumes nothing.
 use mathlib.Core.Path.{◌≡◌, refl, sym, ap, ◌∙◌, subst}
-use mathlib.Core.Bool.{Bool, true, false, cond, not, ◌&&◌, ◌||◌}
-use mathlib.Core.List.{List, [], ◌∷◌, ◌++◌, map}
+use mathlib.Core.Bool.{Bool, true, false, not, ◌||◌}
+use mathlib.Core.List.{List, [], ◌∷◌, map}
 use mathlib.Core.Option.{Option, some, none}
-use Prim.Native.Nat.{ℕ, zero, suc, ◌+◌, ◌*◌, ◌/◌, ◌%◌, ◌≤◌, ◌<◌}
+use Prim.Native.Nat.{ℕ, suc, ◌+◌, ◌*◌, ◌/◌, ◌≤◌, ◌<◌}
 use native.Mathlib.Omega.{arith}
 use lib.IntN.{ℤ, pos}
-use lib.ListN.{length, get_or, length-map}
-use lib.Dec.{ltb, leb, eqb}
-use borrow.Author.Tests.{ltb-true}
+use lib.ListN.{length, length-map}
+use lib.Dec.{eqb}
 use Rattle.definition.specs.declared.Cell.{Cell}
 use Rattle.definition.specs.Word.{eq_z, address_of}
-use Rattle.definition.specs.Memory.{cell, word}
-use Rattle.definition.specs.Encoding.{legal, tag_of, op_number, mode₁, mode₂, reg₁, reg₂, register_fits, is_address, number_fits, sound_instruction, sound_at, sound}
+use Rattle.definition.specs.Encoding.{legal, op_number, mode₁, mode₂, reg₁, reg₂, register_fits, is_address, number_fits, sound_instruction, sound_at, sound}
 use Rattle.expression.specs.declared.Value.{Value}
 use Rattle.expression.specs.Grammar.{Expr}
 use Rattle.expression.specs.Reader.{trees}
@@ -21,9 +19,8 @@ use Rattle.expression.proofs.Spans.{by_bool, clash}
 use Rattle.assembly.specs.Grammar.{Arg, None, Imm, Reg, Dir, Ind, Idx, mode, Body, Word, Code, Line, line, registers, Named, named, Register, register, Operand, Content, Row, Rows}
 use Rattle.assembly.specs.Grammar as G
 use Rattle.assembly.specs.Reader.{Text, lines, broken, rows}
-use Rattle.assembly.specs.Assemble.{place_in, labels_of, arg_of, body_of, line_values, arg_exceeds, exceeds, arg_register, arg_number, body_cell, line_cell, lowest, wrong_labels, wrong_values, Assembled, cells, refuses, otherwise, judged, assembled, assemble}
+use Rattle.assembly.specs.Assemble.{place_in, labels_of, arg_of, body_of, line_values, arg_exceeds, exceeds, arg_register, arg_number, body_cell, line_cell, lowest, wrong_labels, wrong_values, cells, refuses, otherwise, judged, assembled, assemble}
 use Rattle.assembly.specs.Theorems.{CellsFit, all_sound, OneReading, Refused13, Accepted, CellsSound}
-use Rattle.assembly.proofs.Names.{legal-below}
 use Rattle.assembly.proofs.Sound.{rows-sound}
 use Rattle.assembly.proofs.Complete.{rows-complete}
 use Rattle.assembly.proofs.Complete as C

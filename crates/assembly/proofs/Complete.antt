@@ -1,30 +1,29 @@
 -- The reader accepts exactly the grammar's lines and texts, and each has one reading. Assumes nothing.
-use mathlib.Core.Path.{◌≡◌, refl, sym, ap, ◌∙◌, subst}
-use mathlib.Core.Bool.{Bool, true, false, cond, ◌&&◌, ◌||◌}
-use mathlib.Core.List.{List, [], ◌∷◌, ◌++◌, append_assoc, append-nil}
-use mathlib.Core.Option.{Option, some, none}
-use Prim.Native.Nat.{ℕ, zero, suc, ◌+◌, ◌*◌, ◌-◌, ◌≤◌, ◌<◌}
+use mathlib.Core.Path.{◌≡◌, refl, sym, ◌∙◌}
+use mathlib.Core.Bool.{Bool, true, false, ◌&&◌}
+use mathlib.Core.List.{List, [], ◌∷◌, ◌++◌, append_assoc}
+use Prim.Native.Nat.{ℕ, zero, suc, ◌+◌, ◌≤◌, ◌<◌}
 use native.Mathlib.Omega.{arith}
-use lib.IntN.{ℤ, pos, neg_ℤ}
+use lib.IntN.{pos, neg_ℤ}
 use lib.ListN.{length, get_or}
-use lib.Dec.{leb, ltb, eqb}
-use borrow.Author.Tests.{leb-true, ltb-true, eqb-true, lt-ltb, le-leb, eq-eqb, ne_eqb}
+use lib.Dec.{leb, eqb}
+use borrow.Author.Tests.{leb-true, lt-ltb, le-leb, eq-eqb, ne_eqb}
 use Rattle.definition.specs.Encoding.{legal}
 use Rattle.expression.specs.Grammar.{Expr, Number, Gap, Digits, Letters, Part, sum, Reads}
 use Rattle.expression.specs.Grammar as EG
-use Rattle.expression.specs.Reader.{same, Outcome, gives, refused, then, head, tail, front, past, is_space, is_digit, is_letter, is_star, is_sign, skip, decimal, signed, trees, numbered, read_sum}
+use Rattle.expression.specs.Reader.{same, gives, refused, then, head, tail, front, past, is_space, is_digit, is_letter, is_star, is_sign, skip, signed, trees, numbered}
 use Rattle.expression.specs.Table.{is_labelled}
-use Rattle.expression.proofs.Spans.{by_bool, clash, every, front_of, past_of}
-use Rattle.expression.proofs.Chain.{value_of, never}
+use Rattle.expression.proofs.Spans.{clash, every, front_of, past_of}
+use Rattle.expression.proofs.Chain.{never}
 use Rattle.expression.proofs.Sound.{both, digit-bounds}
-use Rattle.expression.proofs.Complete.{Free, every-gap, skip-gap, gap-digit, gap-letter, every-digit, decimal-digits, head-digits, every-letter, head-letters, letter-no-space, reads}
+use Rattle.expression.proofs.Complete.{Free, skip-gap, gap-digit, gap-letter, every-digit, decimal-digits, head-digits, every-letter, head-letters, letter-no-space, reads}
 use Rattle.expression.proofs.Places.{past-on, space-ends}
 use Rattle.assembly.specs.Grammar.{Arg, None, Imm, Reg, Dir, Ind, Idx, mode, Body, Word, Code, Line, line, mnemonics, registers, dot_word, Named, named, Mark, mark, Register, register, Index, Operand, Content, Row, Rows}
 use Rattle.assembly.specs.Grammar as G
 use Rattle.assembly.specs.Reader.{number_from, number_of, expect, indexed, operand, coded, operands, word_after, content, ended, row, Text, lines, broken, onto, rows, rows_after}
 use Rattle.assembly.specs.Reader as R
-use Rattle.assembly.proofs.Names.{mnemonic-number, mnemonic-letters, mnemonic-some, register-number, register-letters, not-bare, legal-below}
-use Rattle.assembly.proofs.Sound.{rows-sound, row-sound, lines-path}
+use Rattle.assembly.proofs.Names.{mnemonic-number, mnemonic-letters, mnemonic-some, register-number, register-letters, not-bare}
+use Rattle.assembly.proofs.Sound.{lines-path}
 
 -- a text that goes on with nothing that could belong to a value
 pub record Stops (r : List ℕ) : Type 0 where

@@ -1,10 +1,9 @@
 -- Reading a line with values is reading it with trees and then taking their values: what is accepted does not hang on the labels. Assumes nothing.
-use mathlib.Core.Path.{◌≡◌, refl, sym, ap, ◌∙◌}
-use mathlib.Core.Bool.{Bool, true, false, cond, ◌&&◌}
-use mathlib.Core.List.{List, [], ◌∷◌}
+use mathlib.Core.Path.{◌≡◌, refl, ◌∙◌}
+use mathlib.Core.Bool.{Bool, true, false, cond}
+use mathlib.Core.List.{List, ◌∷◌}
 use mathlib.Core.Option.{Option, some, none}
 use Prim.Native.Nat.{ℕ}
-use lib.IntN.{ℤ}
 use lib.ListN.{length}
 use lib.Dec.{leb, ltb, eqb}
 use Rattle.expression.specs.declared.Value.{Value}
@@ -15,7 +14,7 @@ use Rattle.expression.specs.Values.{values, eval, evaluated}
 use Rattle.expression.proofs.Spans.{by_bool}
 use Rattle.expression.specs.Table.{is_labelled}
 use Rattle.expression.proofs.Fused.{values-of-trees, numbered-fused}
-use Rattle.assembly.specs.Grammar.{Arg, None, Imm, Reg, Dir, Ind, Idx, mode, Body, Word, Code, Line, line, mnemonics, dot_word}
+use Rattle.assembly.specs.Grammar.{Arg, None, Imm, Reg, Dir, Ind, Idx, mode, Body, Word, line, mnemonics, dot_word}
 use Rattle.assembly.specs.Reader.{number_of, register, expect, indexed, operand, coded, operands, word_after, content, ended, row}
 use Rattle.assembly.specs.Assemble.{arg_of, body_of, line_values}
 

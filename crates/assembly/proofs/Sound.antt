@@ -1,20 +1,20 @@
 -- What the reader takes off a text is a line by the grammar. Assumes nothing.
 use mathlib.Core.Path.{◌≡◌, refl, sym, ap, ◌∙◌, subst}
-use mathlib.Core.Bool.{Bool, true, false, cond, ◌&&◌, ◌||◌}
-use mathlib.Core.List.{List, [], ◌∷◌, ◌++◌, append_assoc, append-nil}
+use mathlib.Core.Bool.{true, false, cond, ◌&&◌}
+use mathlib.Core.List.{List, [], ◌∷◌, ◌++◌, append_assoc}
 use mathlib.Core.Option.{Option, some, none}
-use Prim.Native.Nat.{ℕ, zero, suc, ◌+◌, ◌*◌, ◌-◌, ◌≤◌, ◌<◌}
+use Prim.Native.Nat.{ℕ, zero, suc, ◌≤◌, ◌<◌}
 use native.Mathlib.Omega.{arith}
-use lib.IntN.{ℤ, pos, neg_ℤ}
+use lib.IntN.{pos, neg_ℤ}
 use lib.ListN.{length}
 use lib.Dec.{leb, ltb, eqb}
-use borrow.Author.Tests.{leb-true, ltb-true, eqb-true}
+use borrow.Author.Tests.{leb-true, ltb-true}
 use Rattle.definition.specs.Encoding.{legal}
-use Rattle.expression.specs.Grammar.{Expr, Number, Gap, Digits, Letters, sum, Reads}
+use Rattle.expression.specs.Grammar.{Expr, Number, Gap, Letters, sum, Reads}
 use Rattle.expression.specs.Reader.{same, Outcome, gives, refused, then, head, tail, front, past, is_space, is_digit, is_letter, skip, decimal, signed, trees, numbered, read_sum}
 use Rattle.expression.specs.Table.{is_labelled}
-use Rattle.expression.proofs.Spans.{by_bool, clash, front-past, front-every, cons_of}
-use Rattle.expression.proofs.Chain.{middle, when, rest_of, value_of, never}
+use Rattle.expression.proofs.Spans.{by_bool, front-past, front-every}
+use Rattle.expression.proofs.Chain.{middle, when, rest_of, value_of}
 use Rattle.expression.proofs.Sound.{both, gap_of, digits, letters, front-head, token, equal-ends, skipped}
 use Rattle.expression.proofs.Sound as E
 use Rattle.expression.proofs.Places.{past-on, space-ends}

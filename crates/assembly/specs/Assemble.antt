@@ -1,6 +1,6 @@
 -- What becomes of a text: the cells, or a refusal: "13 line outside the grammar, round brackets over 32 deep, or past the lent image; 14 label
 -- missing, set again or beyond 256; 15 value out of range; after 12 in this order, each with its lowest line".
-use Rattle.std.specs.Prelude.{Bool, true, false, cond, not, ◌||◌, List, [], ◌∷◌, map, ℕ, zero, suc, ◌+◌, ◌%◌, ℤ, pos, length, leb, eqb}
+use Rattle.std.specs.Prelude.{Bool, false, cond, not, ◌||◌, List, [], ◌∷◌, map, ℕ, suc, ◌%◌, ℤ, pos, length, leb, eqb}
 use Rattle.std.proofs.Math.Option.{Option, some, none}
 use Rattle.definition.specs.declared.Cell.{Cell}
 use Rattle.definition.specs.declared.Counted.{Counted}

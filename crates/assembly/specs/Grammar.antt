@@ -1,6 +1,6 @@
 -- A line of the assembler (Card 1), written without the reader. 10 is a line end, 32 a space, 37 `%`, 43 a plus, 44 a comma, 45 a minus,
 -- 58 a colon, 91 and 93 are the square brackets.
-use Rattle.std.specs.Prelude.{◌≡◌, true, List, [], ◌∷◌, ◌++◌, ℕ, suc, ◌+◌, ◌*◌, ◌<◌, ◌≤◌, pos, neg_ℤ, length, get_or}
+use Rattle.std.specs.Prelude.{◌≡◌, true, List, [], ◌∷◌, ◌++◌, ℕ, ◌<◌, ◌≤◌, pos, neg_ℤ, length, get_or}
 use Rattle.std.proofs.Math.Option.{Option, some, none}
 use Rattle.definition.specs.Encoding.{legal}
 use Rattle.expression.specs.Grammar.{Expr, Number, Gap, Digits, Letters, sum, Reads}

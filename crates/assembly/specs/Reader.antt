@@ -1,5 +1,5 @@
 -- The reader of lines, over any algebra of values.
-use Rattle.std.specs.Prelude.{Bool, true, false, cond, List, [], ◌∷◌, ℕ, zero, suc, length, leb, ltb, eqb}
+use Rattle.std.specs.Prelude.{true, false, cond, List, [], ◌∷◌, ℕ, zero, suc, length, leb, ltb, eqb}
 use Rattle.std.proofs.Math.Option.{Option, some, none}
 use Rattle.definition.specs.Encoding.{legal}
 use Rattle.expression.specs.Reader.{same, Algebra, Outcome, gives, refused, then, head, tail, front, past, is_space, is_letter, skip, numbered, read_sum}

@@ -1,6 +1,6 @@
 -- What a caller may rely on, as statements.
 use Rattle.std.specs.Prelude.{◌≡◌, Bool, true, false, ◌&&◌, List, [], ◌∷◌, ◌++◌, map, reverse, ℕ, suc, ◌≤◌, ◌<◌, length, take}
-use Rattle.std.proofs.Math.Option.{Option, some}
+use Rattle.std.proofs.Math.Option.{Option}
 use Rattle.definition.specs.declared.Cell.{Cell}
 use Rattle.definition.specs.Encoding.{sound}
 use Rattle.expression.specs.declared.Value.{Value}

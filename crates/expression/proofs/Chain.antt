@@ -1,12 +1,12 @@
 -- The chain of operators without its bound, and that no reader gives more text than it had. Assumes nothing.
-use mathlib.Core.Path.{◌≡◌, refl, sym, ap, ◌∙◌}
-use mathlib.Core.Bool.{Bool, true, false, cond, ◌&&◌, ◌||◌, false≢true, true≢false}
-use mathlib.Core.List.{List, [], ◌∷◌, ◌++◌}
-use Prim.Native.Nat.{ℕ, zero, suc, ◌+◌, ◌≤◌, ◌<◌}
+use mathlib.Core.Path.{◌≡◌, refl, sym}
+use mathlib.Core.Bool.{Bool, true, false, cond}
+use mathlib.Core.List.{List, [], ◌∷◌}
+use Prim.Native.Nat.{ℕ, zero, suc, ◌≤◌, ◌<◌}
 use native.Mathlib.Omega.{arith}
-use lib.ListN.{length, length-append}
-use lib.Dec.{ltb, leb, eqb}
-use Rattle.expression.specs.Reader.{Algebra, Outcome, gives, refused, then, head, tail, front, past, is_space, is_digit, is_letter, skip, Level, is_star, is_sign, product_level, sum_level, chain, chained, links, numbered, labelled, closed, atom_with, product_with, sum_with, within, read_sum, read_product, read_atom}
+use lib.ListN.{length}
+use lib.Dec.{leb, eqb}
+use Rattle.expression.specs.Reader.{Algebra, Outcome, gives, refused, then, head, tail, front, past, is_space, is_digit, is_letter, skip, Level, is_star, is_sign, product_level, sum_level, chain, chained, links, numbered, labelled, closed, atom_with, product_with, sum_with, within, read_product, read_atom}
 use Rattle.expression.proofs.Spans.{by_bool, clash, past-length, tail-length}
 
 -- what a reader that gave something gave first

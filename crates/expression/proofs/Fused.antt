@@ -1,14 +1,14 @@
 -- Reading values is reading the tree and then taking its value. Assumes nothing.
-use mathlib.Core.Path.{◌≡◌, refl, sym, ap, ◌∙◌}
+use mathlib.Core.Path.{◌≡◌, refl, ap, ◌∙◌}
 use mathlib.Core.Bool.{Bool, true, false, cond}
 use mathlib.Core.Option.{Option}
-use mathlib.Core.List.{List, [], ◌∷◌, ◌++◌}
+use mathlib.Core.List.{List}
 use Prim.Native.Nat.{ℕ, zero, suc}
 use lib.ListN.{length}
 use lib.Dec.{leb, eqb}
 use Rattle.expression.specs.declared.Value.{Value}
-use Rattle.expression.specs.Grammar.{Expr, Number, Label, Plus, Minus, Times}
-use Rattle.expression.specs.Reader.{Algebra, Outcome, gives, refused, then, head, tail, front, past, is_space, is_digit, is_letter, skip, trees, Level, is_star, is_sign, product_level, sum_level, chain, chained, links, numbered, labelled, closed, atom_with, product_with, sum_with, within, read_sum, read_product, read_atom}
+use Rattle.expression.specs.Grammar.{Expr, Plus, Minus}
+use Rattle.expression.specs.Reader.{Outcome, gives, refused, then, head, tail, front, is_digit, is_letter, skip, trees, Level, product_level, sum_level, chain, chained, links, numbered, labelled, closed, atom_with, product_with, sum_with, within, read_sum}
 use Rattle.expression.specs.Values.{values, eval, evaluated}
 use Rattle.expression.proofs.Spans.{by_bool}
 

@@ -1,5 +1,5 @@
 -- The values of constant expressions: "each operation must stay within 64 bits".
-use Rattle.std.specs.Prelude.{Bool, true, false, cond, ◌||◌, List, [], ◌∷◌, ℕ, ℤ, pos, ◌+ℤ◌, ◌-ℤ◌, ◌*ℤ◌}
+use Rattle.std.specs.Prelude.{Bool, true, false, cond, ◌||◌, List, ℕ, ℤ, pos, ◌+ℤ◌, ◌-ℤ◌, ◌*ℤ◌}
 use Rattle.std.proofs.Math.Option.{Option, some, none}
 use Rattle.definition.specs.declared.Wrapped.{Wrapped}
 use Rattle.definition.specs.Word.{is_word, wrapped}

@@ -1,4 +1,4 @@
-use Rattle.std.proofs.Common.{arith, rules, ◌≡◌, ◌∙◌, sym}
+use Rattle.std.proofs.Common.{arith, rules, ◌∙◌, sym}
 use borrow.Author.Tests.{eqb-true}
 use Rattle.expression.specs.Reader.{is_star, is_sign, product_level, sum_level, read_atom, read_product}
 use Rattle.expression.specs.Values.{values, no_labels}
@@ -41,7 +41,7 @@ product-loop-m-preserved t c = (forward-on is_star c.args.s.now c.args.at c.oper
 pub product-returns : goal.product-returns
 product-returns t c = record {
   same = loop-stop (product_level (values no_labels)) (read_atom (values (lookup c.args.s.now c.args.labels.now)) c.args.depth) (read_atom-shrinks (values (lookup c.args.s.now c.args.labels.now)) c.args.depth) star-ends c.args.s.now c.loop-m.r (sym c.star_follows.ensures ∙ c.loop-m-test.false) ∙ c.loop-m.invariant.1;
-  on = c.loop-m.invariant.0
+  on = c.loop-m.invariant.0;
 }
 
 pub sum-loop-m-init : goal.sum-loop-m-init
@@ -65,5 +65,5 @@ sum-loop-m-preserved t c = (forward-on is_sign c.args.s.now c.args.at c.operand-
 pub sum-returns : goal.sum-returns
 sum-returns t c = record {
   same = loop-stop (sum_level (values no_labels)) (read_product (values (lookup c.args.s.now c.args.labels.now)) c.args.depth) (read_product-shrinks (values (lookup c.args.s.now c.args.labels.now)) c.args.depth) sign-ends c.args.s.now c.loop-m.r (sym c.sign_follows.ensures ∙ c.loop-m-test.false) ∙ c.loop-m.invariant.1;
-  on = c.loop-m.invariant.0
+  on = c.loop-m.invariant.0;
 }

@@ -2,7 +2,6 @@ use mathlib.Core.Path.{refl, ◌∙◌}
 use Rattle.expression.specs.Reader.{is_digit}
 use Rattle.expression.proofs.Sound.{digit-bounds}
 use Rattle.expression.proofs.Places.{going, going_more, going-stop, tested, digit-ends, inside, cap-more, cap-stop}
-use Prim.Native.Nat.{◌-◌}
 use native.Mathlib.Omega.{arith}
 use Rattle.expression.proofs.digits.Goals as goal
 

@@ -1,6 +1,5 @@
 use Rattle.expression.specs.Reader.{is_letter}
 use Rattle.expression.proofs.Places.{going, going_more, going-stop, tested, letter-ends, inside}
-use Prim.Native.Nat.{◌-◌}
 use native.Mathlib.Omega.{arith}
 use Rattle.expression.proofs.skip_letters.Goals as goal
 

@@ -1,7 +1,7 @@
 use Rattle.expression.proofs.Lookup.{among-all, among-here, among_next, among_none}
 use mathlib.Core.Path.{sym, ap, ◌∙◌}
 use mathlib.Core.Option.{some}
-use Prim.Native.Nat.{ℕ, ◌-◌}
+use Prim.Native.Nat.{ℕ}
 use native.Mathlib.Omega.{arith}
 use Rattle.expression.specs.Reader.{same}
 use Rattle.expression.specs.Table.{name_at}

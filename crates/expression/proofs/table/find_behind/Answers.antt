@@ -1,6 +1,5 @@
 use mathlib.Core.Path.{sym, ◌∙◌}
 use native.Mathlib.Omega.{arith}
-use Rattle.expression.specs.Table.{setting}
 use Rattle.expression.proofs.Lookup.{behind-no, behind-out, behind-in}
 use Rattle.expression.proofs.table.find_behind.Goals as goal
 

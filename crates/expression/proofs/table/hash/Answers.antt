@@ -1,5 +1,5 @@
 use mathlib.Core.Path.{refl, ap, ◌∙◌}
-use Prim.Native.Nat.{ℕ, ◌+◌, ◌*◌, ◌-◌, ◌%◌}
+use Prim.Native.Nat.{ℕ, ◌+◌, ◌*◌, ◌%◌}
 use native.Mathlib.Omega.{arith}
 use Rattle.expression.specs.Reader.{is_letter}
 use Rattle.expression.specs.Table.{name_at, hash_from}

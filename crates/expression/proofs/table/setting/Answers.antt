@@ -1,5 +1,4 @@
 use mathlib.Core.Path.{refl, sym, ◌∙◌}
-use Prim.Native.Nat.{◌-◌}
 use native.Mathlib.Omega.{arith}
 use Rattle.expression.proofs.Lookup.{setting-here, setting-next, setting-out}
 use Rattle.expression.proofs.table.setting.Goals as goal

@@ -1,7 +1,6 @@
 use Rattle.expression.specs.Table.{is_inner}
 use Rattle.expression.proofs.Places.{going, going_more, going-stop, tested, inside}
 use Rattle.expression.proofs.Lookup.{inner-ends}
-use Prim.Native.Nat.{◌-◌}
 use native.Mathlib.Omega.{arith}
 use Rattle.expression.proofs.table.skip_inner.Goals as goal
 
