@@ -18,7 +18,7 @@ put_held-requires c =
 pub loop-left-preserved : goal.loop-left-preserved
 loop-left-preserved c =
     let v = c.loop-left.invariant in
-    (search rules, (c.put_held.auto.0 ∙ v.1.0, ap (put_back _ c.args.kept.now) c.put_held.ensures ∙ put-more c.args.kept.now _ c.loop-left.left c.loop-left-test.true ∙ v.1.1))
+    (search rules, (c.put_held.auto.cells ∙ v.1.0, ap (put_back _ c.args.kept.now) c.put_held.ensures ∙ put-more c.args.kept.now _ c.loop-left.left c.loop-left-test.true ∙ v.1.1))
 
 pub shape_of-cells : goal.shape_of-cells
 shape_of-cells c = c.loop-left.invariant.1.0

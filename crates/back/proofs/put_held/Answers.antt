@@ -13,4 +13,4 @@ put_cell-requires c =
 pub returns : goal.returns
 returns c =
     let a = c.args in
-    c.put_cell.ensures ∙ (λ i. put_cell a.cells.now (address_is a.kept.now a.i c.number_at-address.ensures i) (cell-is a.kept.now a.i c.cell_at.ensures i))
+    c.put_cell.ensures ∙ (λ i. put_cell a.cells.now (address_is a.kept.now a.i c.number_at-address.ensures i) (cell-is a.kept.now a.i c.cell_at-v.ensures i))

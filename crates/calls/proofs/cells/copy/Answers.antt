@@ -16,7 +16,7 @@ pub loop-i-preserved : goal.loop-i-preserved
 loop-i-preserved c = let v = c.loop-i.invariant in
     let s = c.args.image.now in
     let i = c.loop-i.i in
-    (search rules, (simp length-set v.1.0, simp (back (get_or s i (pos 0)) c.z-1.given, v.1.1) (front-more s c.args.part.now (pos 0) i (search rules) (search rules))))
+    (search rules, (simp length-set v.1.0, simp (back (get_or s i (pos 0)) (search rules), v.1.1) (front-more s c.args.part.now (pos 0) i (search rules) (search rules))))
 
 pub returns : goal.returns
 returns c = let e : c.loop-i.i ≡ length c.args.image.now = omega arith in

@@ -1,5 +1,6 @@
 use native.Mathlib.Omega.{arith}
 use Rattle.definition.specs.Calls.{read_cell}
+use borrow.Author.Rules.{rules}
 use Rattle.word.proofs.Laws.{back}
 use Rattle.checks.proofs.Verdict.{passed-by, refused-by}
 use Rattle.refusals.proofs.Passed.{read-passed}
@@ -12,8 +13,7 @@ get_cell-v-requires c = let a = c.args in
 pub returns-then-d-eq0 : goal.returns-then-d-eq0
 unfolding read_cell
 returns-then-d-eq0 c = let v = c.get_cell-v.result in
-    let g = c.struct_told-1.given in
-    rw (passed-by c.read_check-d.ensures c.if-d-eq0.true, back v.tag g.0.1, back v.first g.1.0.1, back v.second g.1.1.0.1, c.get_cell-v.ensures)
+    rw (passed-by c.read_check-d.ensures c.if-d-eq0.true, back v.tag (search rules), back v.first (search rules), back v.second (search rules), c.get_cell-v.ensures)
 
 pub returns : goal.returns
 unfolding read_cell

@@ -1,4 +1,5 @@
 use mathlib.Core.Path.{◌∙◌}
+use native.Mathlib.Omega.{arith}
 use mir.Facts.{to_z-of_z}
 use Rattle.definition.specs.Calls.{with_register}
 use Rattle.row.proofs.Register.{register-is, register-sp}
@@ -18,5 +19,4 @@ returns-in-2 c = rw (to_z-of_z c.ranges.w) at c.put.ensures ∙ register-is _ 2 
 
 pub returns-in_default : goal.returns-in_default
 unfolding with_register
-returns-in_default c = let h = c.in_default.in_default-own.rest in
-    rw (to_z-of_z c.ranges.w) at c.put-in_default.ensures ∙ register-sp _ _ _ h.0.0.1 h.0.1 h.1
+returns-in_default c = rw (to_z-of_z c.ranges.w) at c.put-in_default.ensures ∙ register-sp _ _ _ (omega arith) (omega arith) (omega arith)
