@@ -6,7 +6,6 @@ use native.Mathlib.Numerals.{add-one}
 use native.Mathlib.Omega.{arith}
 use lib.ListN.{length, drop, get_or, set}
 use lib.Seq.{drop-cons}
-use lib.Dec.{ltb}
 use Rattle.definition.specs.Io.{around, put_bytes}
 use Rattle.word.proofs.Laws.{ltb-elim}
 

@@ -1,6 +1,6 @@
 use mathlib.Core.Path.{◌≡◌, ◌∙◌, refl, sym}
 use mathlib.Core.Bool.{true, false}
-use Prim.Native.Nat.{◌*◌, ◌-◌, ◌<◌}
+use Prim.Native.Nat.{◌*◌, ◌<◌}
 use native.Mathlib.Omega.{arith}
 use native.Mathlib.Numerals.{add-one}
 use lib.ListN.{length, drop, length-drop}

@@ -1,7 +1,7 @@
 use mathlib.Core.Path.{◌∙◌, ap}
-use Prim.Native.Nat.{ℕ, ◌+◌, ◌*◌, ◌<◌, ◌^◌}
+use Prim.Native.Nat.{ℕ, ◌+◌, ◌*◌}
 use borrow.Author.Rules.{rules}
-use lib.IntN.{ℤ, pos}
+use lib.IntN.{pos}
 use lib.ListN.{get_or}
 use Rattle.word.proofs.Laws.{back}
 use Rattle.definition.specs.Memory.{cell_at}
