@@ -14,7 +14,7 @@ invariant-loop-steps l = record {
   accepted : AcceptedMachine (machine_at l.cells l.queue l.output l.t);
   left : later l.steps l.empty (run (l.budget - l.steps) (machine_at l.cells l.queue l.output l.t)) ≡ run l.budget (machine_at l.initial.cells l.queue l.initial.output l.initial.t);
   near : NEAR ≤ l.t.cycles → l.saved ≡ l.t;
-  empty_in : l.empty ≤ TOTAL-MOST
+  empty_in : l.empty ≤ TOTAL-MOST;
 }
 
 abbrev pub decreases-loop-steps : goal.decreases-loop-steps

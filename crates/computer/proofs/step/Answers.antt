@@ -53,9 +53,9 @@ joined-serves c =
     let a = c.args in let l = a.cells.now in let q = a.queue.now in let n = length a.output.now in let k = a.m.k in let t = a.m.timer in let g = guard_of a.m in let f = c.fetch-f.result in
     let at-e : Performed → Type 0 = λ e. Serves l q n k t f.i.cost (requested g l f) (record { full = false; e = e }) in
     elim c.if-f.branch [
-      then-f+then-is_asker+else-served w ↦ subst at-e (sym w.e-is) (served-ok g l q n k t f w.if-f.true _ (subst (λ (b : Bool). Serves l q n k t f.i.cost (executed_at g l f.s f.i) (record { full = b; e = w.ask-served.result.e })) w.if-served.false (w.ask-served.ensures g)))
-    | then-f+else-is_asker w ↦ subst at-e (sym (w.e-is ∙ w.performed-e-else-is_asker.ensures)) (served-made l q n a.m f w.if-f.true c.guard-guard.ensures w.execute-d.result w.execute-d.ensures)
-    | else-f w ↦ subst at-e (sym (w.e-is ∙ c.performed-e.ensures ∙ ap (λ (d : Made). performed d k t) (c.with_none.ensures ∙ ap unwritten c.refuse.ensures))) (served-none g l q n k t f c.requires.accepted.core_in.high w.if-f.false)
+      | then-f+then-is_asker+else-served w ↦ subst at-e (sym w.e-is) (served-ok g l q n k t f w.if-f.true _ (subst (λ (b : Bool). Serves l q n k t f.i.cost (executed_at g l f.s f.i) (record { full = b; e = w.ask-served.result.e })) w.if-served.false (w.ask-served.ensures g)))
+      | then-f+else-is_asker w ↦ subst at-e (sym (w.e-is ∙ w.performed-e-else-is_asker.ensures)) (served-made l q n a.m f w.if-f.true c.guard-guard.ensures w.execute-d.result w.execute-d.ensures)
+      | else-f w ↦ subst at-e (sym (w.e-is ∙ c.performed-e.ensures ∙ ap (λ (d : Made). performed d k t) (c.with_none.ensures ∙ ap unwritten c.refuse.ensures))) (served-none g l q n k t f c.requires.accepted.core_in.high w.if-f.false)
     ]
 
 pub settle-requires : goal.settle-requires
