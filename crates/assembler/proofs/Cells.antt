@@ -1,14 +1,12 @@
 -- Operands by their modes. Assumes nothing.
-use mathlib.Core.Path.{◌≡◌, refl, sym, ap, ◌∙◌}
-use mathlib.Core.Bool.{Bool, true, false, cond, not, ◌&&◌, ◌||◌}
-use Prim.Native.Nat.{ℕ, zero, suc, ◌+◌, ◌≤◌, ◌<◌}
+use mathlib.Core.Path.{◌≡◌, refl, ap, ◌∙◌}
+use mathlib.Core.Bool.{Bool, false, cond, not, ◌&&◌, ◌||◌}
+use Prim.Native.Nat.{ℕ, zero, suc, ◌≤◌, ◌<◌}
 use native.Mathlib.Omega.{arith}
 use lib.IntN.{ℤ, pos}
-use lib.Dec.{ltb, eqb}
-use borrow.Author.Tests.{lt-ltb, le-ltb, eq-eqb, ne_eqb}
-use Rattle.definition.specs.declared.Cell.{Cell}
+use borrow.Author.Tests.{ne_eqb}
 use Rattle.definition.specs.Word.{address_of}
-use Rattle.definition.specs.Memory.{cell, word}
+use Rattle.definition.specs.Memory.{cell}
 use Rattle.definition.specs.Encoding.{tag_of, is_address}
 use Rattle.expression.specs.declared.Value.{Value}
 use Rattle.assembly.specs.Grammar.{mode}

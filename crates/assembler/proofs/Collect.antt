@@ -1,18 +1,18 @@
 -- The table of labels, line by line. Assumes nothing.
 use mathlib.Core.Path.{◌≡◌, refl, sym, ap, ◌∙◌, subst}
 use mathlib.Core.Bool.{Bool, true, false, cond, ◌&&◌}
-use mathlib.Core.List.{List, [], ◌∷◌}
+use mathlib.Core.List.{List}
 use mathlib.Core.Option.{Option, some, none}
-use Prim.Native.Nat.{ℕ, zero, suc, ◌+◌, ◌*◌, ◌-◌, ◌≤◌, ◌<◌}
+use Prim.Native.Nat.{ℕ, zero, suc, ◌+◌, ◌*◌, ◌≤◌, ◌<◌}
 use native.Mathlib.Omega.{arith}
 use native.Mathlib.Numerals.{add-one}
 use lib.ListN.{length, drop, get_or, set, replicate, length-set}
 use lib.Seq.{get_or-set_same, get_or-set_other}
 use lib.Dec.{eqb, ltb}
-use borrow.Author.Tests.{ne_eqb, ltb-true, eqb-true, eqb-false}
+use borrow.Author.Tests.{ltb-true, eqb-true, eqb-false}
 use Rattle.expression.specs.Reader.{past, same, is_space}
 use Rattle.expression.specs.Code.{Place}
-use Rattle.expression.specs.Table.{name_at, is_labelled, sets, next_line, setting, held, beyond, beyond_line, name_of, line_of, hash_from, guess, is_guessed, among, kept, or_else, behind, lookup, Usable}
+use Rattle.expression.specs.Table.{name_at, is_labelled, next_line, setting, held, beyond, beyond_line, name_of, line_of, hash_from, guess, is_guessed, among, kept, or_else, behind, lookup, Usable}
 use Rattle.expression.proofs.Spans.{by_bool, clash}
 use Rattle.expression.proofs.Sound.{both}
 use Rattle.assembly.proofs.Names.{same_true}

@@ -1,19 +1,17 @@
 -- From the passes to the call. Assumes nothing.
-use mathlib.Core.Path.{◌≡◌, refl, sym, ap, ◌∙◌, subst, fun_ext}
-use mathlib.Core.Bool.{Bool, true, false, cond}
+use mathlib.Core.Path.{◌≡◌, refl, sym, ap, ◌∙◌, fun_ext}
+use mathlib.Core.Bool.{true, false}
 use mathlib.Core.List.{List, [], ◌∷◌, map}
 use mathlib.Core.Option.{Option}
-use Prim.Native.Nat.{ℕ, zero, suc, ◌+◌, ◌*◌, ◌/◌, ◌%◌, ◌≤◌, ◌<◌}
+use Prim.Native.Nat.{ℕ, zero, suc, ◌+◌, ◌/◌, ◌%◌, ◌≤◌}
 use native.Mathlib.Omega.{arith}
 use lib.IntN.{ℤ}
-use lib.ListN.{length, drop}
-use lib.Dec.{eqb}
+use lib.ListN.{length}
 use borrow.Author.Tests.{eq-eqb, ne_eqb}
 use Rattle.definition.specs.declared.Cell.{Cell}
-use Rattle.definition.specs.declared.Counted.{Counted}
 use Rattle.definition.specs.declared.Done.{Done}
-use Rattle.definition.specs.Calls.{Called, called}
-use Rattle.definition.specs.Memory.{cell_count, put_cell}
+use Rattle.definition.specs.Calls.{called}
+use Rattle.definition.specs.Memory.{put_cell}
 use Rattle.expression.specs.declared.Value.{Value}
 use Rattle.expression.specs.Grammar.{Expr}
 use Rattle.expression.specs.Reader.{Outcome, gives, refused, trees}
@@ -22,13 +20,13 @@ use Rattle.expression.specs.Table.{setting}
 use Rattle.expression.proofs.Spans.{clash}
 use Rattle.assembly.specs.Grammar.{Line}
 use Rattle.assembly.specs.Reader.{row, Text, lines, broken, onto, rows_after, rows}
-use Rattle.assembly.specs.Assemble.{place_in, labels_of, line_values, line_cell, Assembled, cells, refuses, judged, assembled, assemble, counted, put_cells, answered, assemble_call}
+use Rattle.assembly.specs.Assemble.{place_in, labels_of, line_values, line_cell, Assembled, refuses, judged, assembled, assemble, counted, put_cells, answered, assemble_call}
 use Rattle.assembly.proofs.Sound.{rows-sound}
 use Rattle.assembly.proofs.Complete.{rows-complete}
 use Rattle.assembly.proofs.Placed.{labels-placed}
 use Rattle.assembly.proofs.Texts.{text_of, rows-fused}
 use Rattle.assembler.specs.declared.lines.Extent.{Extent}
-use Rattle.assembler.specs.Meaning.{shape, lines_of, is_whole, text_lines, done, judge}
+use Rattle.assembler.specs.Meaning.{shape, lines_of, is_whole, text_lines, judge}
 use Rattle.assembler.proofs.Judged.{done_of, judged-is, judged-refuses, judged-cells}
 
 mapped : {A B : Type 0} (f : A → B) (l : List A) → length (map f l) ≡ length l

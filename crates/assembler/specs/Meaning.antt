@@ -1,5 +1,5 @@
 -- What the passes over a text answer, one line at a time.
-use Rattle.std.specs.Prelude.{◌≡◌, Bool, true, false, cond, not, ◌||◌, List, [], ◌∷◌, ℕ, zero, suc, ◌+◌, ◌≤◌, length, drop, set, leb, eqb}
+use Rattle.std.specs.Prelude.{◌≡◌, Bool, true, false, cond, not, ◌||◌, List, [], ◌∷◌, ℕ, zero, suc, ◌+◌, ◌≤◌, length, drop, leb, eqb}
 use Rattle.std.proofs.Math.Option.{Option, some, none}
 use Rattle.definition.specs.declared.Done.{Done}
 use Rattle.expression.specs.declared.Value.{Value}

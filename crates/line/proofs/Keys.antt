@@ -1,6 +1,6 @@
 -- Short names are told apart by their keys. Assumes nothing.
 use mathlib.Core.Path.{◌≡◌, refl, sym, ap, ◌∙◌}
-use mathlib.Core.Bool.{Bool, true, false, cond, ◌&&◌}
+use mathlib.Core.Bool.{Bool, true, false, ◌&&◌}
 use mathlib.Core.List.{List, [], ◌∷◌, map}
 use Prim.Native.Nat.{ℕ, zero, suc, ◌+◌, ◌*◌, ◌-◌, ◌≤◌, ◌<◌, ◌^◌}
 use native.Mathlib.Omega.{arith}
@@ -8,9 +8,9 @@ use native.Mathlib.Nat.{pow-suc}
 use native.Mathlib.Numerals.{add-one}
 use lib.ListN.{length, drop, get_or}
 use lib.Seq.{drop-cons}
-use lib.Dec.{leb, ltb, eqb}
-use borrow.Author.Tests.{leb-true, leb-false, le-leb, lt-leb, eqb-true, eq-eqb, ne_eqb}
-use Rattle.expression.specs.Reader.{head, tail, front, is_letter, same}
+use lib.Dec.{leb, eqb}
+use borrow.Author.Tests.{leb-true, le-leb, lt-leb, eqb-true, eq-eqb, ne_eqb}
+use Rattle.expression.specs.Reader.{head, front, is_letter, same}
 use Rattle.expression.specs.Table.{name_at}
 use Rattle.expression.proofs.Spans.{by_bool, clash, every, every-head, every-tail, front-every}
 use Rattle.expression.proofs.Sound.{both}
@@ -18,7 +18,7 @@ use Rattle.expression.proofs.Places.{front-on, front-off, letter-ends, tail-drop
 use Rattle.assembly.specs.Grammar.{mnemonics, registers}
 use Rattle.assembly.specs.Reader.{number_from, number_of}
 use Rattle.assembly.proofs.Names.{same_true}
-use Rattle.line.specs.Names.{key_from, key, short_key, index_from, word_letters}
+use Rattle.line.specs.Names.{key_from, short_key, index_from, word_letters}
 
 pub letter-bounds : (b : ℕ) → is_letter b ≡ true → (97 ≤ b) × (b ≤ 122)
 unfolding is_letter

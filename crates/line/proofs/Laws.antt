@@ -1,12 +1,12 @@
 -- What each function's tests and callees make of the reader's answer. Assumes nothing.
 use mathlib.Core.Path.{◌≡◌, refl, sym, ap, ◌∙◌, subst}
 use mathlib.Core.Bool.{Bool, true, false, cond, ◌&&◌}
-use mathlib.Core.List.{List, [], ◌∷◌}
-use mathlib.Core.Option.{Option, some, none}
+use mathlib.Core.List.{List}
+use mathlib.Core.Option.{Option, none}
 use Prim.Native.Nat.{ℕ, zero, suc, ◌+◌, ◌-◌, ◌≤◌, ◌<◌}
 use native.Mathlib.Omega.{arith}
-use lib.ListN.{length, drop, get_or}
-use lib.Dec.{ltb, leb, eqb}
+use lib.ListN.{length, drop}
+use lib.Dec.{ltb, eqb}
 use borrow.Author.Tests.{lt-ltb, le-ltb, le-leb, lt-leb, eq-eqb, ne_eqb, eqb-true}
 use Rattle.expression.proofs.Sound.{both}
 use Rattle.definition.specs.Encoding.{legal}
@@ -16,15 +16,14 @@ use Rattle.expression.specs.declared.Reading.TheVariants as E
 use Rattle.expression.specs.Reader.{same, Outcome, gives, refused, then, head, tail, front, past, skip, is_space, is_letter, numbered, read_sum}
 use Rattle.expression.specs.Values.{values, no_labels}
 use Rattle.expression.specs.Table.{name_at, is_labelled}
-use Rattle.expression.specs.Code.{Read, Place, told, Forward}
-use Rattle.expression.proofs.Spans.{by_bool, clash}
+use Rattle.expression.specs.Code.{Read, Place}
+use Rattle.expression.proofs.Spans.{by_bool}
 use Rattle.expression.proofs.Places.{tail-drop, front-on, front-off, letter-ends, run_length, inside-byte}
 use Rattle.assembly.specs.Grammar as G
 use Rattle.assembly.specs.Grammar.{mode, mnemonics, registers, dot_word}
 use Rattle.assembly.specs.Reader.{number_of, register, expect, indexed, operand, coded, operands, word_after, content, ended, row}
 use Rattle.line.specs.declared.Arg.{Arg}
 use Rattle.line.specs.declared.Body.{Body}
-use Rattle.line.specs.declared.Line.{Line}
 use Rattle.line.specs.declared.RegisterRead.{RegisterRead}
 use Rattle.line.specs.declared.RegisterRead.TheVariants as R
 use Rattle.line.specs.declared.ArgRead.{ArgRead}
@@ -34,7 +33,7 @@ use Rattle.line.specs.declared.BodyRead.TheVariants as B
 use Rattle.line.specs.declared.LineRead.{LineRead}
 use Rattle.line.specs.declared.LineRead.TheVariants as L
 use Rattle.line.specs.Names.{word_letters}
-use Rattle.line.specs.Code.{arg, no_value, by_mode, arg_told, body_told, label_told, line_told, register_told, arg_read_told, body_read_told, line_read_told, RegisterIn, ArgIn, BodyIn, LineIn, RegisterIs, ArgIs, BodyIs, LineIs, as_register, as_value, as_word, index_of, second_of, in_square}
+use Rattle.line.specs.Code.{arg, no_value, by_mode, arg_told, label_told, register_told, arg_read_told, body_read_told, ArgIn, RegisterIs, ArgIs, BodyIs, LineIs, as_register, as_value, as_word, index_of, second_of, in_square}
 
 then-then : {X Y Z : Type 0} (o : Outcome X) (k : X → List ℕ → Outcome Y) (l : Y → List ℕ → Outcome Z) → then (then o k) l ≡ then o (λ x u. then (k x u) l)
 unfolding then

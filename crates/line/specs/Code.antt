@@ -1,7 +1,6 @@
 -- What the code's types say in the reader's.
-use Rattle.std.specs.Prelude.{◌≡◌, Bool, true, false, cond, List, [], ◌∷◌, ℕ, ◌+◌, ◌≤◌, ◌<◌, pos, length, drop, get_or, eqb}
+use Rattle.std.specs.Prelude.{◌≡◌, Bool, true, false, cond, List, [], ◌∷◌, ℕ, ◌≤◌, ◌<◌, pos, length, drop, get_or, eqb}
 use Rattle.std.proofs.Math.Option.{Option, some, none}
-use Rattle.definition.specs.Encoding.{legal}
 use Rattle.expression.specs.declared.Value.{Value}
 use Rattle.expression.specs.declared.Reading.{Reading}
 use Rattle.expression.specs.declared.Reading.TheVariants as E

@@ -1,5 +1,5 @@
 -- Names as numbers: five bits a letter, and the count of letters.
-use Rattle.std.specs.Prelude.{Bool, cond, List, [], ◌∷◌, ℕ, suc, ◌+◌, ◌*◌, ◌-◌, length, leb, eqb}
+use Rattle.std.specs.Prelude.{cond, List, [], ◌∷◌, ℕ, suc, ◌+◌, ◌*◌, ◌-◌, length, leb, eqb}
 
 unfoldable pub key_from : ℕ → List ℕ → ℕ
 key_from k [] = k

@@ -1,5 +1,4 @@
 use mathlib.Core.Path.{◌∙◌, sym, ap, subst, refl}
-use Prim.Native.Nat.{◌-◌}
 use native.Mathlib.Omega.{arith}
 use Rattle.expression.specs.Table.{lookup}
 use Rattle.line.specs.Code.{line_read_told, LineIn, line_told}

@@ -1,5 +1,4 @@
 use mathlib.Core.Path.{◌∙◌, sym}
-use Prim.Native.Nat.{◌-◌}
 use native.Mathlib.Omega.{arith}
 use Rattle.expression.specs.Reader.{is_letter}
 use Rattle.expression.proofs.Places.{tested, inside, letter-ends}

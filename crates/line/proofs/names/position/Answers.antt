@@ -1,5 +1,4 @@
 use mathlib.Core.Path.{refl, ◌∙◌}
-use Prim.Native.Nat.{◌-◌}
 use Rattle.line.proofs.Keys.{index-here, index-next, index-none}
 use Rattle.line.proofs.names.position.Goals as goal
 
