@@ -7,6 +7,7 @@ use Rattle.arguments.specs.Operands.{arg_of}
 use Rattle.registers.specs.Meaning.{put_res}
 use Rattle.instructions.specs.Jumps.{test_at}
 use Rattle.instructions.proofs.Laws.{quiet_none, arm-none, arm-made, jump-op, jumps-left, branch-is}
+use borrow.Author.Rules.{rules}
 use Rattle.instructions.proofs.execute.Goals as goal
 
 pub returns-in-0 : goal.returns-in-0
@@ -113,6 +114,6 @@ returns-in_default c =
     let at-match = at_zero in
     let start = at-match in
     let a = start.args in let l = a.cells.now in let m = core l a.s in let o = a.op in
-    let j = jumps-left o start.requires.1.1 start.requires.1.0 at-match.in_default.in_default-own.rest in
+    let j = jumps-left o start.requires.1.1 start.requires.1.0 (search rules) in
     let e = at-is-taken.is_taken.ensures ∙ ap₂ (test_at o) at_zero.zero.ensures at-negative.negative.ensures in
     quiet_none l m _ start.requires.0 c.jump_if.result c.with_none-in_default.ensures (c.jump_if.ensures ∙ branch-is (jump (arg_of a.x)) (return tt) m (sym e)) ∙ jump-op a.guard (arg_of a.x) (arg_of a.y) (reg_at a.x.reg) (reg_at a.y.reg) l a.s o j.0 j.1
