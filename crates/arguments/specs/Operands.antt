@@ -1,5 +1,5 @@
 -- Operands as the code has them.
-use Rattle.std.specs.Prelude.{Bool, cond, ◌||◌, List, [], ◌∷◌, ℕ, ℤ, pos, ◌+ℤ◌, get_or, eqb}
+use Rattle.std.specs.Prelude.{Bool, cond, ◌||◌, [], ◌∷◌, ℕ, ℤ, pos, ◌+ℤ◌, get_or, eqb}
 use Rattle.definition.specs.declared.Cell.{Cell}
 use Rattle.definition.specs.declared.Registers.{Registers}
 use Rattle.definition.specs.declared.Word.{Word}

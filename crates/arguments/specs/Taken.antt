@@ -3,7 +3,7 @@ use Rattle.std.specs.Prelude.{true, false, List, ℕ, ℤ, pos}
 use Rattle.definition.specs.declared.Cell.{Cell}
 use Rattle.definition.specs.declared.Error.TheVariants.{Reset}
 use Rattle.definition.specs.Memory.{empty}
-use Rattle.definition.specs.Exec.{Core, Res, ok, err, core}
+use Rattle.definition.specs.Exec.{Res, ok, err, core}
 use Rattle.registers.specs.Meaning.{res_of}
 use Rattle.arguments.specs.declared.taken.WordTaken.{WordTaken}
 use Rattle.arguments.specs.declared.taken.AddressTaken.{AddressTaken}

@@ -3,7 +3,7 @@ use Rattle.std.specs.Prelude.{Bool, ◌||◌, ℕ, eqb}
 use Rattle.definition.specs.declared.Error.TheVariants.{CellError, InvalidMemoryAccess}
 use Rattle.definition.specs.Constants.{INTERRUPT-SR-SAVE}
 use Rattle.definition.specs.Registers.{with_sr}
-use Rattle.definition.specs.Exec.{Exec, and_then, ◌>>=◌, ◌>>◌, change, take_word, read}
+use Rattle.definition.specs.Exec.{Exec, ◌>>=◌, change, take_word, read}
 
 -- The operations that ask the console: in and out.
 abbrev pub asker : ℕ → Bool

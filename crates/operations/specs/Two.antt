@@ -4,7 +4,7 @@ use Rattle.definition.specs.declared.Cell.{Cell}
 use Rattle.definition.specs.declared.Error.TheVariants.{Extract, Reset}
 use Rattle.definition.specs.Word.{shl_w, shr_w}
 use Rattle.definition.specs.Registers.{Reg}
-use Rattle.definition.specs.Exec.{Core, Res, Exec, ok, err, core, and_then, ◌>>=◌, return, take_word}
+use Rattle.definition.specs.Exec.{Res, ok, err, core, and_then, ◌>>=◌, return, take_word}
 use Rattle.definition.specs.Instructions.{register_word}
 use Rattle.registers.specs.Meaning.{res_of}
 use Rattle.operations.specs.declared.Two.{Two}

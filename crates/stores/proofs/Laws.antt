@@ -2,7 +2,7 @@
 use mathlib.Core.Path.{◌≡◌, refl, sym, ap, ◌∙◌}
 use mathlib.Core.Bool.{Bool, true, false, cond}
 use mathlib.Core.List.{List}
-use Prim.Native.Nat.{ℕ, zero, suc, ◌<◌, ◌≤◌}
+use Prim.Native.Nat.{ℕ, zero, suc, ◌≤◌}
 use lib.IntN.{ℤ}
 use lib.Dec.{ltb, leb}
 use borrow.Author.Tests.{ltb-true}
@@ -10,7 +10,7 @@ use Rattle.definition.proofs.Verdict.{and_left}
 use Rattle.definition.specs.declared.Cell.{Cell}
 use Rattle.definition.specs.declared.Registers.{Registers}
 use Rattle.definition.specs.declared.Error.{Error}
-use Rattle.definition.specs.declared.Error.TheVariants.{InvalidMemoryAccess, CellError}
+use Rattle.definition.specs.declared.Error.TheVariants.{InvalidMemoryAccess}
 use Rattle.definition.specs.Constants.{CELLS-MOST}
 use Rattle.definition.specs.Memory.{empty, cell_count}
 use Rattle.definition.specs.Registers.{Reg, reg_at, put_reg, refused, with_sp}

@@ -1,12 +1,12 @@
 -- What each way through the code says of the definition.
 use mathlib.Core.Path.{◌≡◌, refl, sym, ap, ◌∙◌}
-use mathlib.Core.Bool.{Bool, true, false, cond, ◌&&◌}
+use mathlib.Core.Bool.{Bool, true, false, cond}
 use mathlib.Core.List.{List, [], ◌∷◌}
 use Prim.Native.Nat.{ℕ, zero, suc, ◌<◌, ◌≤◌}
 use native.Mathlib.Omega.{arith}
 use lib.IntN.{ℤ}
 use lib.Dec.{ltb, leb}
-use borrow.Author.Tests.{ltb-true, le-ltb, lt-ltb}
+use borrow.Author.Tests.{le-ltb}
 use Rattle.definition.specs.declared.Registers.{Registers}
 use Rattle.definition.specs.declared.Error.{Error}
 use Rattle.definition.specs.declared.Error.TheVariants.{InvalidInstruction, Reset}
@@ -25,7 +25,7 @@ use Rattle.arguments.specs.declared.taken.AddressTaken.{AddressTaken}
 use Rattle.arguments.specs.declared.Arg.{Arg}
 use Rattle.arguments.specs.Operands.{arg_of}
 use Rattle.arguments.specs.Taken.{address_res}
-use Rattle.journal.specs.Writes.{Held, held_at, nowhere, aim, wrote_there}
+use Rattle.journal.specs.Writes.{held_at, nowhere, aim, wrote_there}
 use Rattle.written.specs.Meaning.{written_at}
 
 -- it comes to write at n
