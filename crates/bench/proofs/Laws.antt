@@ -1,25 +1,25 @@
 -- What holds of every bench.
-use mathlib.Core.Path.{◌≡◌, refl, sym, ap, ◌∙◌, subst}
+use mathlib.Core.Path.{◌≡◌, refl, sym, ap, ◌∙◌}
 use mathlib.Core.Bool.{Bool, true, false, cond, ◌&&◌, ◌||◌, true≢false}
 use mathlib.Core.Logic.{◌≢◌}
 use mathlib.Core.List.{List, [], ◌∷◌, ◌++◌}
 use Prim.Native.Nat.{ℕ, zero, suc, ◌+◌, ◌-◌, ◌<◌, ◌≤◌}
 use native.Mathlib.Omega.{arith}
 use native.Mathlib.Nat.{zero-add, suc-add}
-use lib.ListN.{length, get_or}
-use lib.Dec.{ltb, leb, eqb}
-use borrow.Author.Tests.{ltb-true, ltb-false, lt-ltb, eqb-true, eqb-false}
+use lib.ListN.{length}
+use lib.Dec.{ltb, eqb}
+use borrow.Author.Tests.{ltb-true, ltb-false, lt-ltb, eqb-true}
 use Rattle.definition.specs.declared.Ran.{Ran}
-use Rattle.definition.specs.Calls.{Lent, lent, lent_supervisor, Called, called, run_call, calls, answers}
-use Rattle.definition.specs.UserMode.{Accepted, Alike, GoesNoFurther, Whole}
+use Rattle.definition.specs.Calls.{Lent, Called, called, run_call, calls, answers}
+use Rattle.definition.specs.UserMode.{Accepted}
 use Rattle.definition.proofs.Verdict.{and_left, and_right, and_both}
 use Rattle.definition.proofs.Accepted.{runs-accepted}
 use Rattle.definition.proofs.UserMode.{user-mode}
 use Rattle.bench.specs.declared.Seat.{Seat}
 use Rattle.bench.specs.declared.Benched.{Benched}
-use Rattle.bench.specs.Seat.{no_seat, can_go_on, least, turn_budget, after}
+use Rattle.bench.specs.Seat.{can_go_on, least, turn_budget, after}
 use Rattle.bench.specs.Bench.{Seated, seated, Bench, bench, takes_turn, turn, turned, taken, round, round_of, some_can, goes_on, rounds, going, fuel, finished, bench_check, bench_of, bench_call, list_of, buffers_of, benched}
-use Rattle.bench.specs.Laws.{seat_at, AllAccepted, none, also, Ends, TurnsFall, BenchEnds, all_used, AddsUp, Waited, EachWaited, first, own, rest, next, Waits, AllWait, budget_of, budgets_in_round, budgets_in, turn_budgets, all_steps, last_stop, Turns, Reached, ByItself, SeatBySeat, RefusedKeeps}
+use Rattle.bench.specs.Laws.{seat_at, AllAccepted, none, also, TurnsFall, BenchEnds, all_used, AddsUp, Waited, EachWaited, Waits, AllWait, budget_of, budgets_in_round, budgets_in, turn_budgets, all_steps, last_stop, Turns, Reached, ByItself, SeatBySeat, RefusedKeeps}
 
 -- ---- a choice, by its cases
 

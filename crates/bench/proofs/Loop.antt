@@ -11,7 +11,6 @@ use lib.ListN.{length, get_or, set, take, drop, length-set}
 use lib.Seq.{take_all, take-length, drop-length}
 use lib.Dec.{ltb, leb, eqb}
 use borrow.Author.Tests.{ltb-true, ltb-false, leb-true, lt-ltb, eqb-true, eqb-false, eq-eqb, ne_eqb}
-use Rattle.definition.specs.declared.Done.{Done}
 use Rattle.definition.specs.Calls.{Lent, lent, Called, called, passes, run_check}
 use Rattle.definition.specs.UserMode.{Accepted}
 use Rattle.definition.proofs.Verdict.{and_left, and_right, and_both}
@@ -19,12 +18,12 @@ use Rattle.bench.specs.declared.Seat.{Seat}
 use Rattle.bench.specs.declared.Benched.{Benched}
 use Rattle.bench.specs.declared.clock.Clock.{Clock}
 use Rattle.bench.specs.declared.clock.Took.{Took}
-use Rattle.bench.specs.Seat.{no_seat, can_go_on, turn_budget, after}
+use Rattle.bench.specs.Seat.{no_seat, can_go_on, after}
 use Rattle.bench.specs.Bench.{Seated, seated, Bench, bench, takes_turn, turn, turned, taken, round, round_of, some_can, goes_on, rounds, going, fuel, finished, machine_at, machines, seats_of, buffers_of, list_of, benched, seats_fit, seat_by_seat, bench_check, bench_of, bench_call}
 use Rattle.bench.specs.Clock.{with_machine, begun, seated_at, turn_of, next, answer}
 use Rattle.bench.specs.Laws.{seat_at, AllAccepted, none, also}
 use Rattle.bench.proofs.Laws.{either, budget-limit, takes-can, can-below, turn-within, passed, turned-accepted, taken-within, one-falls, fuel-falls, round-accepted, bench-ends, settled-stays}
-use Rattle.bench.proofs.Parts.{AllSized, machine-is, with-machine, sized-after, start-joined, start-sized, start-list, start-length, divided, buffers-are, list_at, list_set, list_length, cells_in, queue_in, output_in, row_in}
+use Rattle.bench.proofs.Parts.{AllSized, machine-is, with-machine, sized-after, start-joined, start-sized, start-list, start-length, divided, buffers-are, list_at, list_set, list_length}
 
 -- ---- what is left of a round, from place k on
 

@@ -2,7 +2,7 @@
 use mathlib.Core.Path.{◌≡◌, refl, sym, ap, ◌∙◌, subst}
 use mathlib.Core.Bool.{Bool, true, false, cond, ◌&&◌, true≢false}
 use mathlib.Core.List.{List, [], ◌∷◌, ◌++◌, foldr}
-use Prim.Native.Nat.{ℕ, zero, suc, ◌+◌, ◌-◌, ◌<◌, ◌≤◌}
+use Prim.Native.Nat.{ℕ, zero, suc, ◌+◌, ◌-◌, ◌≤◌}
 use native.Mathlib.Omega.{arith}
 use lib.Dec.{eqb, ltb}
 use borrow.Author.Tests.{eqb-true, eq-eqb}
@@ -16,7 +16,7 @@ use Rattle.definition.proofs.Budgets.{budgets-add}
 use Rattle.bench.specs.declared.Seat.{Seat}
 use Rattle.bench.specs.Seat.{can_go_on}
 use Rattle.bench.specs.Bench.{Seated, Bench, takes_turn, turned, taken, round, round_of, goes_on, rounds, fuel, finished}
-use Rattle.bench.specs.Laws.{seat_at, AllAccepted, none, also, budget_of, budgets_in_round, budgets_in, turn_budgets, all_steps, last_stop, Reached, ReachedAtOnce, InOneRun}
+use Rattle.bench.specs.Laws.{seat_at, AllAccepted, also, budget_of, budgets_in_round, budgets_in, all_steps, last_stop, Reached, InOneRun}
 use Rattle.bench.proofs.Laws.{either2, budget-limit, takes-can, can-below, can-then, round-accepted, round-reached, rounds-reached, by_itself}
 
 abbrev sum : List ℕ → ℕ

@@ -1,14 +1,14 @@
 -- The four lent buffers in equal parts, and the seats' machines.
-use mathlib.Core.Path.{◌≡◌, refl, sym, ap, ◌∙◌, subst}
+use mathlib.Core.Path.{◌≡◌, refl, sym, ap, ◌∙◌}
 use mathlib.Core.List.{List, [], ◌∷◌, ◌++◌, append_assoc}
-use Prim.Native.Nat.{ℕ, zero, suc, ◌+◌, ◌*◌, ◌-◌, ◌/◌, ◌%◌, ◌<◌, ◌≤◌}
+use Prim.Native.Nat.{ℕ, zero, suc, ◌+◌, ◌*◌, ◌/◌, ◌%◌, ◌<◌, ◌≤◌}
 use native.Mathlib.Omega.{arith}
-use native.Mathlib.Nat.{zero-mul, suc-mul, mul_comm, mul-le-mul_right, mul-div-le, div-add-mod, add-mul-div_left, zero-div, zero-add, not-suc-le-zero, le_of_suc-le-suc}
+use native.Mathlib.Nat.{zero-mul, suc-mul, mul-le-mul_right, mul-div-le, div-add-mod, add-mul-div_left, zero-div, zero-add, not-suc-le-zero, le_of_suc-le-suc}
 use lib.ListN.{length, get_or, set, take, drop, length-append, length-drop, take-append-drop, drop_of_length-le}
 use lib.Seq.{length-take-le, take_at, drop_at, take-append-add, drop-append-add, drop-drop}
 use Rattle.definition.specs.Calls.{Lent, lent}
 use Rattle.bench.specs.declared.Seat.{Seat}
-use Rattle.bench.specs.Bench.{Seated, seated, part_of, machine_at, machines, seats_of, buffers_of, list_of}
+use Rattle.bench.specs.Bench.{Seated, part_of, machine_at, machines, seats_of, buffers_of, list_of}
 use Rattle.bench.specs.Clock.{with_part, with_machine}
 use Rattle.bench.specs.Laws.{seat_at}
 

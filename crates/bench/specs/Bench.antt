@@ -1,6 +1,5 @@
 -- "One bench, sixteen seats. A whole class runs under one step total."
-use Rattle.std.specs.Prelude.{Bool, true, false, cond, ◌&&◌, ◌||◌, List, [], ◌∷◌, ◌++◌, map, ℕ, zero, suc, ◌+◌, ◌*◌, ◌-◌, ◌/◌, ◌%◌, length, take, drop, ltb, leb, eqb}
-use Rattle.definition.specs.declared.Done.{Done}
+use Rattle.std.specs.Prelude.{Bool, false, cond, ◌&&◌, ◌||◌, List, [], ◌∷◌, ◌++◌, ℕ, zero, suc, ◌+◌, ◌*◌, ◌-◌, ◌/◌, ◌%◌, length, take, drop, ltb, leb, eqb}
 use Rattle.definition.specs.declared.Ran.{Ran}
 use Rattle.definition.specs.Calls.{Lent, lent, Called, called, passes, run_check, run_call}
 use Rattle.bench.specs.declared.Seat.{Seat}

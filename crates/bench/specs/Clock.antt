@@ -1,5 +1,5 @@
 -- Turn by turn: where a bench is between two turns, with the four buffers whole.
-use Rattle.std.specs.Prelude.{Bool, true, false, cond, ◌&&◌, ◌||◌, List, ◌++◌, ℕ, suc, ◌+◌, ◌*◌, ◌-◌, ◌/◌, length, take, drop, ltb, eqb}
+use Rattle.std.specs.Prelude.{false, cond, ◌&&◌, ◌||◌, List, ◌++◌, ℕ, ◌+◌, ◌*◌, ◌-◌, ◌/◌, length, take, drop, ltb, eqb}
 use Rattle.definition.specs.Calls.{Lent, lent, Called, called}
 use Rattle.bench.specs.declared.Seat.{Seat}
 use Rattle.bench.specs.declared.Benched.{Benched}

@@ -1,8 +1,8 @@
 -- What holds of every bench. The proofs are proofs/Laws.
-use Rattle.std.specs.Prelude.{◌≡◌, ◌≢◌, Bool, true, false, cond, ℕ, zero, suc, ◌+◌, ◌-◌, ◌<◌, ◌≤◌, length, get_or}
+use Rattle.std.specs.Prelude.{◌≡◌, ◌≢◌, true, false, cond, ℕ, zero, suc, ◌+◌, ◌-◌, ◌<◌, ◌≤◌, get_or}
 use mathlib.Core.List.{List, [], ◌∷◌, ◌++◌, foldr}
 use Rattle.definition.specs.declared.Ran.{Ran}
-use Rattle.definition.specs.Calls.{Lent, lent, lent_supervisor, Called, run_call, calls, answers}
+use Rattle.definition.specs.Calls.{Lent, lent, lent_supervisor, run_call, calls, answers}
 use Rattle.definition.specs.UserMode.{Accepted, Alike, GoesNoFurther, Whole}
 use Rattle.bench.specs.declared.Seat.{Seat}
 use Rattle.bench.specs.Seat.{no_seat, can_go_on, turn_budget}

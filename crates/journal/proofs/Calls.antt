@@ -1,24 +1,23 @@
 -- The calls with a journal: what they do to it, and what they leave when refused.
-use mathlib.Core.Path.{◌≡◌, refl, sym, ap, ◌∙◌}
+use mathlib.Core.Path.{◌≡◌, refl, sym, ◌∙◌}
 use mathlib.Core.Logic.{◌≢◌}
-use mathlib.Core.Bool.{Bool, true, false, not, cond, ◌||◌, true≢false}
-use mathlib.Core.List.{List, []}
+use mathlib.Core.Bool.{Bool, true, false, cond, true≢false}
+use mathlib.Core.List.{List}
 use Prim.Native.Nat.{ℕ}
 use native.Mathlib.Omega.{arith}
 use lib.IntN.{ℤ}
-use lib.Dec.{eqb}
-use borrow.Author.Tests.{eq-eqb, ne_eqb}
+use borrow.Author.Tests.{eq-eqb}
 use Rattle.definition.specs.declared.Done.{Done}
 use Rattle.definition.specs.declared.Drained.{Drained}
 use Rattle.definition.specs.declared.Ran.{Ran}
 use Rattle.definition.specs.declared.Raised.{Raised}
-use Rattle.definition.specs.Runtime.{Machine, Outcome, completed, stopped, step}
-use Rattle.definition.specs.Calls.{accepted, passes, Called, called, answer, drain_answer, raise_answer, Lent, ran, run_refused, run_check, run_call, fresh_check, fresh, deliver_check, deliver, drain_check, drain, load_check, load, set_register_check, set_register, raise_check, raise, raised}
-use Rattle.journal.specs.Journal.{count_of, with_start, whole_records, is_journal}
+use Rattle.definition.specs.Runtime.{Outcome, completed, stopped}
+use Rattle.definition.specs.Calls.{accepted, passes, Called, called, answer, drain_answer, raise_answer, ran, run_refused, run_check, run_call, fresh_check, fresh, deliver_check, deliver, drain_check, drain, load_check, load, set_register_check, set_register, raise_check, raise, raised}
+use Rattle.journal.specs.Journal.{with_start, whole_records, is_journal}
 use Rattle.journal.specs.Calls.{no_journal, with_journal, run_journal, emptied, fresh_journal, deliver_journal, drain_journal, load_journal, set_register_journal, raise_journal, Backward, back_check, backed, back}
 use Rattle.journal.specs.StepBack.{LeavesBoth, Empties, RefusedKeeps}
+
 -- Not cited: proved first, so that a wrong call is refused at a case that shows it.
-use Rattle.journal.proofs.Cases.{cases}
 
 -- ---- a call that is X where its own tests pass and else Y
 

@@ -1,18 +1,18 @@
 -- The tests of going back pass on what an accepted machine leaves.
-use mathlib.Core.Path.{◌≡◌, refl, sym, ap, ◌∙◌, subst}
-use mathlib.Core.Bool.{Bool, true, false, cond, ◌&&◌, ◌||◌}
+use mathlib.Core.Path.{◌≡◌, refl}
+use mathlib.Core.Bool.{Bool, true, false, ◌&&◌, ◌||◌}
 use mathlib.Core.List.{List, [], ◌∷◌, ◌++◌}
-use Prim.Native.Nat.{ℕ, zero, suc, ◌+◌, ◌*◌, ◌%◌, ◌<◌, ◌≤◌}
+use Prim.Native.Nat.{◌*◌, ◌%◌, ◌≤◌}
 use native.Mathlib.Omega.{arith}
-use lib.IntN.{ℤ, pos}
-use lib.ListN.{length, get_or}
+use lib.IntN.{ℤ}
+use lib.ListN.{length}
 use lib.Dec.{leb, eqb}
 use borrow.Author.Tests.{le-leb, eq-eqb}
 use Rattle.definition.specs.Constants.{ROW, QUEUE-MOST, OUTPUT-MOST}
 use Rattle.definition.specs.Memory.{cell_count}
 use Rattle.definition.specs.Runtime.{Machine}
-use Rattle.definition.specs.Calls.{row_of, mark, Test, test, accepted, is_mark, cells_test, length_test, row_tests, verdict}
-use Rattle.definition.specs.Accepted.{AcceptedCore, AcceptedMachine}
+use Rattle.definition.specs.Calls.{row_of, mark, Test, test, accepted, is_mark, cells_test, length_test, row_tests}
+use Rattle.definition.specs.Accepted.{AcceptedMachine}
 use Rattle.definition.proofs.Verdict.{and_both, Passes, ◌&◌, passes-verdict}
 use Rattle.definition.proofs.Row.{address_is}
 use Rattle.journal.specs.Journal.{count_of, newest, is_journal}

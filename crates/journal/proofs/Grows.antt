@@ -1,11 +1,10 @@
 -- A run leaves the queue's bytes and the output that was counted: what going back, which is lent neither, needs of them.
 use mathlib.Core.Path.{◌≡◌, refl, sym, ap, ◌∙◌}
 use mathlib.Core.Bool.{Bool, true, false, cond, ◌&&◌}
-use mathlib.Core.List.{List}
-use Prim.Native.Nat.{ℕ, zero, suc, ◌-◌, ◌≤◌}
+use Prim.Native.Nat.{ℕ, suc, ◌-◌, ◌≤◌}
 use native.Mathlib.Omega.{arith}
 use lib.IntN.{ℤ}
-use lib.ListN.{length, get_or, set, take, length-set}
+use lib.ListN.{length, get_or, take, length-set}
 use lib.Seq.{take-take, take-set-le}
 use lib.Dec.{ltb, eqb}
 use Rattle.definition.specs.Constants.{CYCLES-END, TIMER-INTERVAL-PORT}

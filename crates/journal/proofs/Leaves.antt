@@ -1,6 +1,5 @@
 -- What going back leaves, whatever the journal holds, and what the other calls leave of the journal.
 use mathlib.Core.Path.{◌≡◌, refl, sym, ap, ◌∙◌, subst}
-use mathlib.Core.Logic.{◌≢◌}
 use mathlib.Core.Bool.{Bool, true, false, cond, ◌&&◌, ◌||◌, true≢false}
 use mathlib.Core.List.{List, [], ◌∷◌, ◌++◌}
 use Prim.Native.Nat.{ℕ, zero, suc, ◌+◌, ◌*◌, ◌-◌, ◌/◌, ◌%◌, ◌<◌, ◌≤◌}
@@ -8,22 +7,22 @@ use native.Mathlib.Omega.{arith}
 use native.Mathlib.Decide.{ℕ_discrete}
 use lib.IntN.{ℤ, pos, nat_abs}
 use lib.ListN.{length, get_or, set, length-set}
-use lib.Seq.{get_or-set_same, get_or-set_other, set_out}
-use lib.Dec.{ltb, leb, eqb}
+use lib.Seq.{get_or-set_same, get_or-set_other}
+use lib.Dec.{leb, eqb}
 use borrow.Author.Tests.{eqb-true, eq-eqb, ne_eqb, leb-true}
 use Rattle.definition.specs.declared.Cell.{Cell}
 use Rattle.definition.specs.declared.Done.{Done}
 use Rattle.definition.specs.Constants.{ROW, QUEUE-MOST, OUTPUT-MOST}
 use Rattle.definition.specs.Memory.{cell_count, cell_at, put_cell}
 use Rattle.definition.specs.Encoding.{sound}
-use Rattle.definition.specs.Calls.{Test, test, accepted, verdict, passes, Called, called, is_below, cells_test, length_test, row_tests}
+use Rattle.definition.specs.Calls.{Test, test, accepted, verdict, passes, called, is_below, cells_test, length_test, row_tests}
 use Rattle.definition.specs.Accepted.{Sound}
-use Rattle.definition.proofs.Verdict.{and_left, and_right, Passes, numbered, passes-right, verdict-passes}
+use Rattle.definition.proofs.Verdict.{and_left, and_right, passes-right, verdict-passes}
 use Rattle.definition.proofs.Cells.{length-put, count-put, cell_same, cell_other}
 use Rattle.definition.proofs.Row.{below_in}
-use Rattle.journal.specs.Journal.{WRITES-MOST, row_in, writes_in, held_in, put_back, start_of, count_of, with_start, records, newest, forget_newest, whole_records, is_journal}
+use Rattle.journal.specs.Journal.{WRITES-MOST, row_in, writes_in, held_in, put_back, start_of, count_of, records, newest, forget_newest, whole_records, is_journal}
 use Rattle.journal.specs.Calls.{emptied, held_fit, is_record, Backward, back_check, backed, back}
-use Rattle.journal.specs.StepBack.{SoundCells, BackLeaves, NoDamage, Emptied}
+use Rattle.journal.specs.StepBack.{SoundCells, NoDamage, Emptied}
 use Rattle.journal.proofs.Ring.{JournalIn, journal-in, journal-is, forgotten}
 
 -- ---- cells put back

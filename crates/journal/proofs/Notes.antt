@@ -1,11 +1,10 @@
 -- Which steps are noted.
-use mathlib.Core.Path.{◌≡◌, refl, ap, ◌∙◌}
-use mathlib.Core.Bool.{Bool, true, false, not, cond, ◌||◌}
+use mathlib.Core.Path.{ap, ◌∙◌}
+use mathlib.Core.Bool.{not, cond, ◌||◌}
 use mathlib.Core.List.{List}
-use Prim.Native.Nat.{ℕ}
 use lib.IntN.{ℤ}
 use borrow.Author.Tests.{ne_eqb}
-use Rattle.definition.specs.Runtime.{Machine, Outcome, completed, stopped, step}
+use Rattle.definition.specs.Runtime.{Machine, Outcome}
 use Rattle.journal.specs.Journal.{remember, begins, begun, step_record, noted}
 use Rattle.journal.specs.StepBack.{Notes}
 

@@ -1,23 +1,22 @@
 -- What an instruction writes, and that it can be put back.
 use mathlib.Core.Path.{◌≡◌, refl, sym, ap, ◌∙◌, subst}
-use mathlib.Core.Bool.{Bool, true, false, cond, ◌&&◌}
-use mathlib.Core.List.{List, [], ◌∷◌, ◌++◌}
-use Prim.Native.Nat.{ℕ, zero, suc, ◌+◌, ◌<◌, ◌≤◌}
+use mathlib.Core.Bool.{Bool, true, false, cond}
+use mathlib.Core.List.{List, [], ◌∷◌}
+use Prim.Native.Nat.{ℕ, ◌<◌, ◌≤◌}
 use native.Mathlib.Omega.{arith}
 use lib.IntN.{ℤ}
 use lib.ListN.{length, get_or, length-append}
 use lib.Dec.{ltb, leb}
-use borrow.Author.Tests.{ltb-true, leb-true, leb-false, lt-ltb}
+use borrow.Author.Tests.{ltb-true, leb-true}
 use Rattle.definition.specs.declared.Cell.{Cell}
 use Rattle.definition.specs.declared.Error.TheVariants.{InvalidMemoryAccess}
 use Rattle.definition.specs.Memory.{cell_count, cell_at, put_cell}
-use Rattle.definition.specs.Exec.{Core, with_cells, Exec, Res, ok, err, and_then, permits, write}
-use Rattle.definition.specs.Runtime.{Machine, attempt, Turn, completes, enters, stops, turn, guard, has_handler}
+use Rattle.definition.specs.Exec.{Core, with_cells, Exec, Res, err, and_then, permits, write}
+use Rattle.definition.specs.Runtime.{attempt, Turn, completes, enters, stops, turn, guard, has_handler}
 use Rattle.definition.proofs.Verdict.{and_left, and_right}
-use Rattle.definition.proofs.Writes.{permits-in, permits-below, permits-outside, write_done, write-trapped}
-use Rattle.journal.specs.Writes.{Held, held, held_at, aimed, wrote_there, instruction_writes, entry_writes, step_writes, undone}
-use Rattle.journal.specs.StepBack.{cells_of, Wrote, OneWrite, FourAtMost}
-use Rattle.journal.proofs.Still.{Still}
+use Rattle.definition.proofs.Writes.{permits-in, permits-below, write_done, write-trapped}
+use Rattle.journal.specs.Writes.{Held, held_at, aimed, wrote_there, instruction_writes, entry_writes, step_writes, undone}
+use Rattle.journal.specs.StepBack.{cells_of, OneWrite, FourAtMost}
 use Rattle.journal.proofs.Shape.{Shape, before, comes, shape-attempt}
 use Rattle.journal.proofs.Cells.{put_back}
 

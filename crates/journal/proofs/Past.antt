@@ -1,17 +1,16 @@
 -- The machines before a run's steps are those that smaller budgets leave, and how many there are.
-use mathlib.Core.Path.{◌≡◌, refl, sym, ap, ◌∙◌, subst}
+use mathlib.Core.Path.{◌≡◌, refl, sym, ap, ◌∙◌}
 use mathlib.Core.Bool.{Bool, true, false, not, cond, ◌||◌}
 use mathlib.Core.List.{List, [], ◌∷◌, ◌++◌}
 use Prim.Native.Nat.{ℕ, zero, suc, ◌+◌, ◌<◌, ◌≤◌}
 use native.Mathlib.Omega.{arith}
-use native.Mathlib.Decide.{ℕ_discrete}
 use lib.ListN.{length, get_or, length-append, get_or-append}
 use lib.Seq.{get_or_at}
 use lib.Dec.{eqb}
 use borrow.Author.Tests.{ne_eqb}
 use Rattle.definition.specs.declared.Ran.{Ran}
-use Rattle.definition.specs.Runtime.{Machine, Outcome, completed, stopped, step, Run, later, go_on, run, uncounted}
-use Rattle.definition.specs.Calls.{Called, Lent, lent_machine, lent_of, ran, run_call}
+use Rattle.definition.specs.Runtime.{Machine, Outcome, completed, stopped, step, later, go_on, run, uncounted}
+use Rattle.definition.specs.Calls.{Called, Lent, lent_machine, lent_of, ran}
 use Rattle.definition.specs.UserMode.{Accepted}
 use Rattle.definition.specs.Accepted.{AcceptedMachine}
 use Rattle.definition.proofs.Row.{accepted-machine}

@@ -1,18 +1,17 @@
 -- A record read back: its row, its cells, and that going back takes it.
-use mathlib.Core.Path.{◌≡◌, refl, sym, ap, ◌∙◌, subst}
-use mathlib.Core.Bool.{Bool, true, false, cond, ◌&&◌}
+use mathlib.Core.Path.{◌≡◌, refl, sym, ap, ◌∙◌}
+use mathlib.Core.Bool.{true}
 use mathlib.Core.List.{List, [], ◌∷◌, ◌++◌}
-use Prim.Native.Nat.{ℕ, zero, suc, ◌+◌, ◌*◌, ◌-◌, ◌<◌, ◌≤◌}
+use Prim.Native.Nat.{ℕ, suc, ◌+◌, ◌*◌, ◌-◌, ◌<◌, ◌≤◌}
 use native.Mathlib.Omega.{arith}
 use lib.IntN.{ℤ, pos, nat_abs}
-use lib.ListN.{length, get_or, take, drop, replicate, length-append, length-replicate}
+use lib.ListN.{length, get_or, drop, replicate, length-append, length-replicate}
 use lib.Seq.{get_or-drop, drop-drop, drop_at, take_at, get_or_at}
 use borrow.Author.Tests.{lt-ltb}
 use Rattle.definition.specs.Constants.{ROW, QUEUE-MOST, OUTPUT-MOST}
 use Rattle.definition.specs.Memory.{cell, put_cell}
 use Rattle.definition.specs.Encoding.{sound}
-use Rattle.definition.specs.Calls.{accepted, verdict, passes, is_below, row_tests}
-use Rattle.definition.specs.Accepted.{Sound}
+use Rattle.definition.specs.Calls.{verdict, passes, is_below, row_tests}
 use Rattle.definition.proofs.Verdict.{and_both, Passes, passes-verdict}
 use Rattle.journal.specs.Writes.{Held, held, undone}
 use Rattle.journal.specs.Journal.{WRITES-MOST, RECORD, numbers, record_of, row_in, writes_in, held_in, put_back}

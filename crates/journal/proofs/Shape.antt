@@ -1,8 +1,7 @@
 -- An instruction comes to its one write, which is the one `aim` names, or leaves the cells.
-use mathlib.Core.Path.{◌≡◌, refl, sym, ap, ◌∙◌, subst}
-use mathlib.Core.Bool.{Bool, true, false, cond, ◌&&◌}
-use mathlib.Core.List.{List, [], ◌∷◌}
-use Prim.Native.Nat.{ℕ, ◌<◌, ◌≤◌}
+use mathlib.Core.Path.{◌≡◌, refl, ap, ◌∙◌, subst}
+use mathlib.Core.List.{List}
+use Prim.Native.Nat.{ℕ}
 use lib.IntN.{ℤ, pos}
 use Rattle.definition.specs.declared.Cell.{Cell}
 use Rattle.definition.specs.declared.Error.{Error}
@@ -17,7 +16,7 @@ use Rattle.definition.specs.Instructions.{Request, nothing, cell_of, register_wo
 use Rattle.definition.specs.Runtime.{Executed, fetch, attempt}
 use Rattle.journal.specs.Writes.{aim_push, aim_push_op, aim_st, aim_fas, aim_swap, nowhere, aim, aimed}
 use Rattle.journal.specs.StepBack.{cells_of}
-use Rattle.journal.proofs.Still.{Still, then-still, seq, pure, raises, asks, s-set, s_read, s-cell, s-register, s-place, s-jump, s-jump_if, s-words, s-neg, s-not, s-rtn, s-pop_op, s-ld, s-rti, s-reset, s-quiet, s-in, s-out, s-fetch}
+use Rattle.journal.proofs.Still.{Still, then-still, seq, pure, raises, s-set, s_read, s-cell, s-register, s-place, s-jump, s-jump_if, s-words, s-neg, s-not, s-rtn, s-pop_op, s-ld, s-rti, s-reset, s-quiet, s-in, s-out, s-fetch}
 
 -- From the cells l: a is where the write would go, and e what comes of it where the step may write from an address on. Either it ends before,
 -- whatever may be written, or it comes to that write and then leaves the cells.

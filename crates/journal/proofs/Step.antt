@@ -10,7 +10,7 @@ use Rattle.definition.specs.declared.Error.{Error}
 use Rattle.definition.specs.declared.Error.TheVariants.{DivByZero, InvalidInstruction, PrivilegedInstruction, Trap, InvalidMemoryAccess, CellError, Extract, InvalidPc, InvalidSp, InvalidSr, Reset}
 use Rattle.definition.specs.Constants.{CYCLES-END, TIMER-INTERVAL-PORT}
 use Rattle.definition.specs.Exception.{ending, HARDWARE-INTERRUPT, NO-HANDLER, OUTPUT-FULL, CYCLES-FULL}
-use Rattle.definition.specs.Memory.{word, cell_count, cell_at}
+use Rattle.definition.specs.Memory.{word, cell_count}
 use Rattle.definition.specs.Registers.{interrupt_enable}
 use Rattle.definition.specs.Io.{read_port, write_port, output_full}
 use Rattle.definition.specs.Timer.{with_timer_mark, set_timer, tick, read_timer}
@@ -24,7 +24,6 @@ use Rattle.journal.specs.Writes.{Held, held_at, instruction_writes, entry_writes
 use Rattle.journal.specs.Journal.{begins}
 use Rattle.journal.specs.StepBack.{cells_of, SoundCells}
 -- Not cited: proved first, so that a step noted wrongly is refused there.
-use Rattle.journal.proofs.Notes.{notes}
 use Rattle.journal.proofs.Still.{s-set}
 use Rattle.journal.proofs.Cells.{undone-append, undone-count, saved-back}
 use Rattle.journal.proofs.OneWrite.{InList, attempt-holds}

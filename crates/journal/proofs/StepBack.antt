@@ -1,23 +1,22 @@
 -- The theorem of going back, over calls.
 use mathlib.Core.Path.{◌≡◌, refl, sym, ap, ◌∙◌, subst}
-use mathlib.Core.Bool.{Bool, true, false, cond}
+use mathlib.Core.Bool.{cond}
 use mathlib.Core.List.{List, [], ◌∷◌}
-use Prim.Native.Nat.{ℕ, zero, suc, ◌+◌, ◌<◌, ◌≤◌}
+use Prim.Native.Nat.{ℕ, suc, ◌+◌, ◌<◌}
 use native.Mathlib.Omega.{arith}
 use lib.IntN.{ℤ}
 use lib.ListN.{length, get_or, take}
 use Rattle.definition.specs.declared.Ran.{Ran}
-use Rattle.definition.specs.Io.{Console}
 use Rattle.definition.specs.Runtime.{Machine, with_console, run}
-use Rattle.definition.specs.Calls.{machine_of, row_of, accepted, passes, Called, called, answer, Lent, lent, lent_machine, lent_of, run_check, ran, run_call, calls}
+use Rattle.definition.specs.Calls.{machine_of, row_of, Called, called, answer, Lent, lent, lent_machine, ran, run_call, calls}
 use Rattle.definition.specs.UserMode.{Accepted}
 use Rattle.definition.specs.Accepted.{AcceptedMachine}
 use Rattle.definition.proofs.Row.{machine-back, accepted-machine, machine-accepted, row_back}
 use Rattle.definition.proofs.Accepted.{run_ends, call-is, runs-accepted}
-use Rattle.journal.specs.Journal.{count_of, records, is_journal, journal}
-use Rattle.journal.specs.Calls.{no_journal, with_journal, run_journal, Backward, backward, back}
-use Rattle.journal.specs.StepBack.{past, pasts, runs_journal, backs, left, Restored, GoesBack, StepBack, SameRun}
-use Rattle.journal.proofs.Ring.{JournalIn, journal-in, journal-is}
+use Rattle.journal.specs.Journal.{count_of, records, journal}
+use Rattle.journal.specs.Calls.{no_journal, with_journal, run_journal, Backward, backward}
+use Rattle.journal.specs.StepBack.{past, pasts, runs_journal, backs, left, StepBack, SameRun}
+use Rattle.journal.proofs.Ring.{journal-in, journal-is}
 use Rattle.journal.proofs.Unwind.{grown-at, kept_at, chain-at, Noted, run-noted, Unwound, unwind}
 
 pub run_is : SameRun

@@ -1,7 +1,6 @@
 -- What leaves the cells as they are: every part of an instruction but `write`.
 use mathlib.Core.Path.{◌≡◌, refl, ◌∙◌}
 use mathlib.Core.Bool.{Bool, true, false}
-use mathlib.Core.List.{List}
 use Prim.Native.Nat.{ℕ, suc, ◌-◌}
 use lib.IntN.{ℤ}
 use Rattle.definition.specs.declared.Cell.{Cell}
@@ -18,10 +17,10 @@ use Rattle.definition.specs.declared.Error.{Error}
 use Rattle.definition.specs.declared.Error.TheVariants.{CellError, Extract, PrivilegedInstruction}
 use Rattle.definition.specs.Word.{address_of}
 use Rattle.definition.specs.Memory.{extract_word, get}
-use Rattle.definition.specs.Registers.{Reg, get_reg, Put, assigned, refused, put_reg, counted, supervisor, with_pc, with_sp, with_sr}
+use Rattle.definition.specs.Registers.{Reg, get_reg, Put, assigned, refused, put_reg, supervisor, with_pc, with_sp, with_sr}
 use Rattle.definition.specs.Arguments.{Operand, resolve, resolved, extract_cell}
 use Rattle.definition.specs.Encoding.{Extracted, instruction, no_instruction}
-use Rattle.definition.specs.Exec.{Core, with_regs, Exec, Res, ok, err, and_then, ◌>>=◌, ◌>>◌, return, raise, branch, ask, change, or_word, take_word, take_address, or_address, or_cell, or_given, or_put, assign, read, check_privileged, pop}
+use Rattle.definition.specs.Exec.{Core, with_regs, Exec, Res, ok, err, and_then, ◌>>=◌, return, raise, branch, ask, change, or_word, take_word, take_address, or_address, or_cell, or_given, or_put, assign, read, check_privileged, pop}
 use Rattle.definition.specs.Instructions.{cell_of, word_of, target_of, register_word, place_of, set_register, words, neg, not_op, jump, jump_if, rtn, pop_op, ld, rti, reset, quiet, in_op, out_op}
 use Rattle.definition.specs.Runtime.{or_instruction, fetch}
 use Rattle.journal.specs.StepBack.{cells_of}

@@ -17,16 +17,16 @@ use Rattle.definition.specs.Calls.{row_of, accepted, passes, row_tests, Called, 
 use Rattle.definition.specs.Accepted.{AcceptedMachine}
 use Rattle.definition.proofs.Verdict.{Passes}
 use Rattle.definition.proofs.Accepted.{Stepped, OutcomeHas, uncounted-in, step-accepted}
-use Rattle.journal.specs.Writes.{Held, step_writes, undone}
-use Rattle.journal.specs.Journal.{row_in, writes_in, put_back, count_of, records, newest, remember, forget_newest, is_journal, begins, begun, step_record, noted, go_on_noting, journal}
-use Rattle.journal.specs.Calls.{is_record, Backward, backward, back_check, backed, back}
+use Rattle.journal.specs.Writes.{step_writes, undone}
+use Rattle.journal.specs.Journal.{row_in, writes_in, put_back, count_of, records, newest, remember, forget_newest, begins, begun, step_record, noted, go_on_noting, journal}
+use Rattle.journal.specs.Calls.{is_record, Backward, backward, backed, back}
 use Rattle.journal.specs.StepBack.{go_on_past, past, backs}
 use Rattle.journal.proofs.Cells.{undone-count}
 use Rattle.journal.proofs.OneWrite.{four-at-most}
 use Rattle.journal.proofs.Step.{OutcomeUndone, step-undone, Fit, writes-fit}
 use Rattle.journal.proofs.Record.{record-length, record-row, record-back, record-fits}
 use Rattle.journal.proofs.Ring.{JournalIn, journal-is, newest-remember, Remembered, remembered, Forgotten, forgotten}
-use Rattle.journal.proofs.Grows.{Grows, grows-here, grows-on, OutcomeGrows, step-grows}
+use Rattle.journal.proofs.Grows.{Grows, grows-on, OutcomeGrows, step-grows}
 use Rattle.journal.proofs.Checks.{row-length, row-passes, back_passes}
 
 -- ---- a history: the machines before the steps, the last one first

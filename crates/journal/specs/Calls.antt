@@ -1,5 +1,5 @@
 -- The calls with a journal lent, and going back (document 02, Card 11). "A refused call changes nothing lent."
-use Rattle.std.specs.Prelude.{Bool, true, false, cond, ◌&&◌, ◌||◌, List, [], ◌∷◌, ◌++◌, ℕ, zero, suc, ◌+◌, ◌*◌, ℤ, pos, get_or, leb, eqb}
+use Rattle.std.specs.Prelude.{Bool, true, cond, ◌&&◌, ◌||◌, List, [], ◌∷◌, ◌++◌, ℕ, zero, suc, ◌+◌, ◌*◌, ℤ, pos, get_or, leb, eqb}
 use Rattle.definition.specs.declared.Done.{Done}
 use Rattle.definition.specs.declared.Ran.{Ran}
 use Rattle.definition.specs.declared.Drained.{Drained}
@@ -7,7 +7,7 @@ use Rattle.definition.specs.declared.Raised.{Raised}
 use Rattle.definition.specs.Constants.{QUEUE-MOST, OUTPUT-MOST, ROW}
 use Rattle.definition.specs.Memory.{cell_count}
 use Rattle.definition.specs.Encoding.{sound}
-use Rattle.definition.specs.Calls.{Test, test, done, accepted, verdict, passes, is_below, cells_test, row_tests, Called, called, answer, drain_answer, raise_answer, Lent, lent_machine, fresh_check, fresh, run_check, run_call, deliver_check, deliver, drain_check, drain, load_check, load, set_register_check, set_register, raise_check, raise}
+use Rattle.definition.specs.Calls.{test, done, accepted, verdict, passes, is_below, cells_test, row_tests, Called, called, answer, drain_answer, raise_answer, Lent, lent_machine, fresh_check, fresh, run_check, run_call, deliver_check, deliver, drain_check, drain, load_check, load, set_register_check, set_register, raise_check, raise}
 use Rattle.journal.specs.Journal.{row_in, writes_in, held_in, put_back, count_of, with_start, with_count, newest, forget_newest, WRITES-MOST, whole_records, is_journal, journal}
 
 -- "New numbers: 20 the journal is no whole number of records [...]; 21 nothing kept to go back to"

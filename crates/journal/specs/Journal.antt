@@ -1,5 +1,5 @@
 -- "Step back" (document 02, Card 11): the journal as signed 64-bit numbers, and what a run writes into it.
-use Rattle.std.specs.Prelude.{Bool, true, false, not, cond, ◌&&◌, ◌||◌, List, [], ◌∷◌, ◌++◌, ℕ, zero, suc, ◌+◌, ◌*◌, ◌-◌, ◌/◌, ◌%◌, ℤ, pos, nat_abs, length, get_or, set, take, drop, replicate, ltb, leb, eqb}
+use Rattle.std.specs.Prelude.{Bool, true, not, cond, ◌&&◌, ◌||◌, List, [], ◌∷◌, ◌++◌, ℕ, zero, suc, ◌+◌, ◌*◌, ◌-◌, ◌/◌, ◌%◌, ℤ, pos, nat_abs, length, get_or, set, take, drop, replicate, ltb, leb, eqb}
 use Rattle.definition.specs.Constants.{ROW}
 use Rattle.definition.specs.Exception.{OUTPUT-FULL, CYCLES-FULL}
 use Rattle.definition.specs.Memory.{cell, put_cell}

@@ -1,5 +1,5 @@
 -- "Step back" (document 02, Card 11): what is proved of it.
-use Rattle.std.specs.Prelude.{◌≡◌, ◌≢◌, Bool, true, false, not, cond, ◌||◌, List, [], ◌∷◌, ℕ, zero, suc, ◌+◌, ◌<◌, ◌≤◌, ℤ, length, get_or, take, eqb}
+use Rattle.std.specs.Prelude.{◌≡◌, ◌≢◌, true, not, cond, ◌||◌, List, [], ◌∷◌, ℕ, zero, suc, ◌+◌, ◌<◌, ◌≤◌, ℤ, length, get_or, take, eqb}
 use Rattle.definition.specs.declared.Cell.{Cell}
 use Rattle.definition.specs.declared.Error.TheVariants.{InvalidMemoryAccess}
 use Rattle.definition.specs.Exception.{BUDGET-SPENT, OUTPUT-FULL, CYCLES-FULL}

@@ -1,7 +1,7 @@
 -- "Step back" (document 02, Card 11): the cells that a step writes, in order of writing, and what each held just before.
 -- It is said beside the definition's step, which keeps no list of its writes: all code is proved against that step as it stands, and runs
 -- without a journal are to cost what they cost.
-use Rattle.std.specs.Prelude.{Bool, true, false, cond, List, [], ◌∷◌, ◌++◌, ℕ, ℤ}
+use Rattle.std.specs.Prelude.{cond, List, [], ◌∷◌, ◌++◌, ℕ, ℤ}
 use Rattle.definition.specs.declared.Cell.{Cell}
 use Rattle.definition.specs.declared.Error.TheVariants.{InvalidMemoryAccess, InvalidInstruction}
 use Rattle.definition.specs.Constants.{INTERRUPT-PC-SAVE, INTERRUPT-SR-SAVE, INTERRUPT-EXCEPTION}
