@@ -10,14 +10,21 @@ ghost use Rattle.io.specs.Counts.{IsPrefixLen};
 ghost use Rattle.lines.specs.Reader.{state, opened};
 ghost use Rattle.lister.specs.Output.{seen, leave_of, listing_text, output_of, output, PartRead, TextRead, Printed};
 
-use libc::{STDIN_FILENO, STDOUT_FILENO};
 use names::Progress;
+use std::alloc::Global;
+use std::env::{Env, FillError};
+use std::io::Read;
 
-// What is known after the whole input, or after the first broken line; `failed` where the input could not be read.
+const STDOUT: i32 = 1;
+
+const STDERR: i32 = 2;
+
+// What is known after the whole input, or after the first broken line; `failed` where the input could not be read, and then `error` says why.
 #[derive(Clone, Copy)]
 struct Input {
     failed: bool,
     progress: Progress,
+    error: Option<std::io::Error>,
 }
 
 // One read more.
@@ -26,13 +33,15 @@ struct Turn {
     ended: bool,
     failed: bool,
     progress: Progress,
+    error: Option<std::io::Error>,
 }
 
-// How much is to be printed; `failed` as in Input.
+// How much is to be printed; `failed` and `error` as in Input.
 #[derive(Clone, Copy)]
 struct Put {
     failed: bool,
     length: usize,
+    error: Option<std::io::Error>,
 }
 
 fn no_output() -> [u8; 163840]
@@ -43,18 +52,28 @@ fn no_output() -> [u8; 163840]
 }
 
 // Takes what one read gives.
-fn read_part(fd: i32, cells: &mut [i64], p: Progress) -> Turn
+fn read_part<R: Read>(from: &mut R, cells: &mut [i64], p: Progress) -> Turn
     requires { length cells.old ≡ 6144 }
     ensures { PartRead (seen (state p.reader cells.old) p.named) (seen (state result.progress.reader cells.new) result.progress.named) result.ended result.failed }
 {
     let mut buf = io::large_buffer();
-    let got = libc::read(fd, &mut buf);
-    let n = io::count(got, &buf);
+    let n = match from.read(&mut buf) {
+        Ok(n) => n,
+        Err(e) => {
+            return Turn {
+                ended: true,
+                failed: true,
+                progress: p,
+                error: Some(e),
+            };
+        }
+    };
     if n == 0 {
         return Turn {
             ended: true,
-            failed: got < 0,
+            failed: false,
             progress: p,
+            error: None,
         };
     }
     let q = names::take_part(cells, p, &buf[..n]);
@@ -62,23 +81,25 @@ fn read_part(fd: i32, cells: &mut [i64], p: Progress) -> Turn
         ended: names::is_broken(q),
         failed: false,
         progress: q,
+        error: None,
     }
 }
 
 // No input uses up so many turns.
-fn read_all(fd: i32, cells: &mut [i64]) -> Input
+fn read_all<R: Read>(from: &mut R, cells: &mut [i64]) -> Input
     requires { length cells.old ≡ 6144 }
     ensures { TextRead (seen (state opened cells.old) 0) (seen (state result.progress.reader cells.new) result.progress.named) }
 {
     let mut p = names::open();
     let mut turns = u64::MAX;
     while turns > 0 {
-        let t = read_part(fd, cells, p);
+        let t = read_part(from, cells, p);
         p = t.progress;
         if t.ended {
             return Input {
                 failed: t.failed,
                 progress: p,
+                error: t.error,
             };
         }
         turns -= 1;
@@ -86,6 +107,7 @@ fn read_all(fd: i32, cells: &mut [i64]) -> Input
     Input {
         failed: false,
         progress: p,
+        error: None,
     }
 }
 
@@ -129,46 +151,66 @@ fn put_seen(cells: &[i64], p: Progress, out: &mut [u8], leave: u64) -> usize
     put_listing(cells, out, leave)
 }
 
-// Puts what is printed of what fd gives, whole, at the front of out; nothing where it could not be read.
-fn put_input(fd: i32, word: &[u8], out: &mut [u8]) -> Put
+// Puts what is printed of what `from` gives, whole, at the front of out; nothing where it could not be read.
+fn put_input<R: Read>(from: &mut R, word: &[u8], out: &mut [u8]) -> Put
     requires { length out.old ≡ 163840 }
     ensures printed { Printed word.now result.failed result.length out.new }
     ensures prefix_len { IsPrefixLen result.length out.new }
 {
     let mut cells = lines::empty_cells();
-    let t = read_all(fd, &mut cells);
+    let t = read_all(from, &mut cells);
     if t.failed {
         return Put {
             failed: true,
             length: 0,
+            error: t.error,
         };
     }
     let n = put_seen(&cells, t.progress, out, leave_of(word));
     Put {
         failed: false,
         length: n,
+        error: None,
     }
+}
+
+// Says on standard error why the file of that name could not be read, without the error's number.
+fn fail(alloc: Global, name: &[u8], error: std::io::Error) -> std::io::Result<()> {
+    let said = format!(in alloc; "{error}")?;
+    let text = said.as_str();
+    let why = match text.split_once(" (os error ") {
+        Some((why, _)) => why,
+        None => text,
+    };
+    io::write_all(STDERR, name);
+    io::write_all(STDERR, b": ");
+    io::write_all(STDERR, why.as_bytes());
+    io::write_all(STDERR, b"\n");
+    Ok(())
 }
 
 // Prints the listing of what standard input gives, or says on standard error why it could not be read.
-fn print_input(word: &[u8]) {
+fn print_input(rt: &HostRuntime, word: &[u8]) -> std::io::Result<()> {
     let mut out = no_output();
-    let p = put_input(STDIN_FILENO, word, &mut out);
-    if p.failed {
-        os::fail(b"standard input");
-        return;
+    let p = put_input(&mut rt.stdin(), word, &mut out);
+    if let Some(e) = p.error {
+        return fail(rt.alloc(), b"standard input", e);
     }
     let n = p.length;
-    io::write_all(STDOUT_FILENO, &out[..n]);
+    io::write_all(STDOUT, &out[..n]);
+    Ok(())
 }
 
 // One argument may give leave; a missing one, or more than one, does not.
-fn main() {
-    if os::arg_count() == 2 {
-        let mut word = io::buffer();
-        let n = os::arg(1, &mut word);
-        print_input(&word[..n]);
-        return;
+fn main(rt: HostRuntime) -> std::io::Result<()> {
+    let mut word = io::buffer();
+    let mut second = io::buffer();
+    let n = match rt.arg(1, &mut word) {
+        Ok(n) => n,
+        Err(_) => 0,
+    };
+    match rt.arg(2, &mut second) {
+        Err(FillError::NotPresent) => print_input(&rt, &word[..n]),
+        _ => print_input(&rt, b""),
     }
-    print_input(b"");
 }

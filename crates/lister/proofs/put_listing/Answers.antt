@@ -5,7 +5,7 @@ use Rattle.lister.proofs.put_listing.Goals as goal
 
 pub returns-then-r-eq0 : goal.returns-then-r-eq0
 returns-then-r-eq0 c = let t = text-put c.args.leave c.args.image.now c.args.out.now _ c.list-r.result c.list-r.ensures c.requires c.if-r-eq0.true in
-    (t.0, prefix_len_of_le _ _ t.1)
+    record { out_after = t.0; prefix_len = prefix_len_of_le _ _ t.1 }
 
 pub returns : goal.returns
-returns c = (c.put_refusal.ensures.0 ∙ refusal-put c.args.leave c.args.image.now c.args.out.now _ c.list-r.result c.list-r.ensures c.requires c.if-r-eq0.false, c.put_refusal.ensures.1)
+returns c = record { out_after = c.put_refusal.ensures.out_after ∙ refusal-put c.args.leave c.args.image.now c.args.out.now _ c.list-r.result c.list-r.ensures c.requires c.if-r-eq0.false; prefix_len = c.put_refusal.ensures.prefix_len }

@@ -7,7 +7,7 @@ use Rattle.lister.proofs.Laws.{some_read}
 use Rattle.lister.proofs.read_part.Goals as goal
 
 pub returns-then-n-eq0 : goal.returns-then-n-eq0
-returns-then-n-eq0 c = record { part = []; taken = refl; last = refl; unread = λ f. refl }
+returns-then-n-eq0 g c = record { part = []; taken = refl; last = refl; unread = λ f. refl }
 
 pub returns : goal.returns
-returns c = rw c.is_broken.ensures (some_read (seen (state c.args.p.reader c.args.cells.now) c.args.p.named) _ c.count-n.result _ (omega (arith, c.if-n-eq0.false)) c.count-n.ensures.0.1 c.take_part-q.ensures)
+returns g c = ?
