@@ -1,6 +1,5 @@
 use mathlib.Core.Path.{◌≡◌, sym, ap}
 use native.Mathlib.Omega.{arith}
-use Rattle.word.proofs.Arms.{past}
 use Rattle.definition.specs.Arguments.{mode_cost}
 use Rattle.encoding.proofs.forms.mode.Goals as goal
 
@@ -27,7 +26,5 @@ returns-in-4 c = sym (ap mode_cost c.in-4.is)
 pub returns-in_default : goal.returns-in_default
 unfolding mode_cost
 returns-in_default c = let a = c.args.m in
-    let h = c.requires in
-    let p = past (Unit {0}) 0 a 5 (omega arith) c.in_default.in_default-own.rest in
     let e : a ≡ 5 = omega arith in
     sym (ap mode_cost e)

@@ -2,7 +2,6 @@ use mathlib.Core.Path.{◌≡◌, sym, ap}
 use Prim.Native.Nat.{ℕ}
 use native.Mathlib.Omega.{arith}
 use lib.ListN.{get_or}
-use Rattle.word.proofs.Arms.{past}
 use Rattle.encoding.specs.Forms.{operations}
 use Rattle.encoding.proofs.forms.operation.Goals as goal
 
@@ -137,7 +136,5 @@ returns-in-31 c = sym (ap (λ (n : ℕ). get_or operations n 0) c.in-31.is)
 pub returns-in_default : goal.returns-in_default
 unfolding operations
 returns-in_default c = let a = c.args.op in
-    let h = c.requires in
-    let p = past (Unit {0}) 0 a 32 (omega arith) c.in_default.in_default-own.rest in
     let e : a ≡ 32 = omega arith in
     sym (ap (λ (n : ℕ). get_or operations n 0) e)
