@@ -2,18 +2,18 @@
 use mathlib.Core.Path.{◌≡◌, refl, sym, ap, ◌∙◌}
 use mathlib.Core.Bool.{Bool, true, false, cond, ◌&&◌}
 use mathlib.Core.List.{List}
-use Prim.Native.Nat.{ℕ, suc, ◌+◌, ◌*◌, ◌-◌, ◌/◌, ◌%◌, ◌<◌, ◌≤◌}
+use Prim.Native.Nat.{ℕ, suc, ◌+◌, ◌-◌, ◌%◌, ◌<◌, ◌≤◌}
 use native.Mathlib.Omega.{arith}
 use lib.IntN.{ℤ, pos, nat_abs}
 use lib.ListN.{length, get_or, set}
 use lib.Dec.{ltb, leb, eqb}
-use borrow.Author.Tests.{ltb-true, ltb-false, lt-ltb, le-ltb, leb-true, le-leb}
+use borrow.Author.Tests.{ltb-true, lt-ltb, le-ltb, leb-true, le-leb}
 use Rattle.definition.specs.Io.{around}
 use Rattle.definition.specs.Calls.{is_below}
 use Rattle.definition.proofs.Verdict.{and_left}
 use Rattle.definition.proofs.Total.{gt-leb}
 use Rattle.journal.specs.Journal.{start_of, count_of, with_start, with_count, records, put_record, kept_place, remember, whole_records, is_journal}
-use Rattle.journal.proofs.Ring.{JournalIn, journal-in, place_in, put-length, put_front, records-length}
+use Rattle.journal.proofs.Ring.{journal-in, place_in, put-length, put_front, records-length}
 use Rattle.ring.specs.Meaning.{next_place, advanced}
 
 pub next-in : (j : List ℤ) → is_journal j ≡ true → next_place j < records j

@@ -1,6 +1,5 @@
 use mathlib.Core.Path.{◌≡◌, ◌∙◌, refl}
 use mathlib.Core.List.{[], append-nil}
-use Prim.Native.Nat.{◌-◌}
 use native.Mathlib.Omega.{arith}
 use lib.IntN.{pos}
 use lib.ListN.{length, take, drop, length-set, replicate, length-replicate, get_or-replicate, drop_of_length-le}
