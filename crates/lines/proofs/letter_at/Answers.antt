@@ -1,5 +1,5 @@
 use mathlib.Core.Path.{sym}
-use mathlib.Core.Path.{sym}
+use borrow.Author.Rules.{rules}
 use Rattle.lines.specs.Reader.{letter}
 use Rattle.lines.proofs.Laws.{letter-last}
 use Rattle.lines.proofs.letter_at.Goals as goal
@@ -25,5 +25,5 @@ unfolding letter
 returns-in-4 c = rw c.in-4.is
 
 pub returns-in_default : goal.returns-in_default
-returns-in_default c = let n = c.in_default.in_default-own.rest in
-    sym (letter-last c.args.i n.0.0.0.0.1 n.0.0.0.1 n.0.0.1 n.0.1 n.1)
+returns-in_default c =
+    sym (letter-last c.args.i (search rules) (search rules) (search rules) (search rules) (search rules))

@@ -1,3 +1,4 @@
+use borrow.Author.Rules.{rules}
 use mathlib.Core.Bool.{true, false}
 use lib.Dec.{ltb}
 use borrow.Author.Tests.{ltb-true}
@@ -15,9 +16,8 @@ overflow_add-q c = let r = c.args.r in
 pub returns-then-f-r : goal.returns-then-f-r
 unfolding comma
 returns-then-f-r c = let l = c.args.r.last in
-    let g = c.struct_told-1.given in
     let w = c.value_of-w in
-    rw (c.if-f-r.true, back l.y g.1.0.1, back l.z g.1.1.0.1, back w.result w.type_inv, w.ensures)
+    rw (c.if-f-r.true, back l.y (search rules), back l.z (search rules), back w.result w.type_inv, w.ensures)
 
 pub returns : goal.returns
 unfolding comma

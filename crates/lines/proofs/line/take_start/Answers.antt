@@ -1,3 +1,4 @@
+use borrow.Author.Rules.{rules}
 use mathlib.Core.Path.{◌≡◌, ◌∙◌, sym, ap}
 use mathlib.Core.Bool.{true, false, ◌&&◌}
 use lib.IntN.{ℤ}
@@ -10,9 +11,8 @@ use Rattle.lines.proofs.line.take_start.Goals as goal
 pub returns-then-is_address : goal.returns-then-is_address
 unfolding start_line
 returns-then-is_address c = let l = c.args.r.last in
-    let g = c.struct_told-2-1.given in
-    let by = back l.y g.1.0.1 in
-    let bz = back l.z g.1.1.0.1 in
+    let by = back l.y (search rules) in
+    let bz = back l.z (search rules) in
     let w = c.value_of-sr in
     let ey : c.is_address.result ≡ is_address (address_of l.y) = c.is_address.ensures ∙ ap (λ (z : ℤ). is_address (address_of z)) by in
     let ez : c.is_address-2.result ≡ is_address (address_of l.z) = c.is_address-2.ensures ∙ ap (λ (z : ℤ). is_address (address_of z)) bz in
@@ -22,9 +22,8 @@ returns-then-is_address c = let l = c.args.r.last in
 pub returns : goal.returns
 unfolding start_line
 returns c = let l = c.args.r.last in
-    let g = c.struct_told-2-1.given in
-    let by = back l.y g.1.0.1 in
-    let bz = back l.z g.1.1.0.1 in
+    let by = back l.y (search rules) in
+    let bz = back l.z (search rules) in
     let ey : c.is_address.result ≡ is_address (address_of l.y) = c.is_address.ensures ∙ ap (λ (z : ℤ). is_address (address_of z)) by in
     let ez : c.is_address-2.result ≡ is_address (address_of l.z) = c.is_address-2.ensures ∙ ap (λ (z : ℤ). is_address (address_of z)) bz in
     let t : (is_address (address_of l.y) && is_address (address_of l.z)) ≡ false = (λ i. sym ey i && sym ez i) ∙ c.if-is_address.false in
