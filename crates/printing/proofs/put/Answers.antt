@@ -22,7 +22,7 @@ shape_of-out c = c.loop-i.invariant.2
 pub returns : goal.returns
 returns c = let l = c.loop-i in
     record {
-        out_after = put_last (take l.k l.out) (drop-end c.args.s.now l.i (omega arith)) l.invariant.3;
-        value = omega arith;
-        out_unchanged = l.invariant.4
+      out_after = put_last (take l.k l.out) (drop-end c.args.s.now l.i (omega arith)) l.invariant.3;
+      value = omega arith;
+      out_unchanged = l.invariant.4;
     }

@@ -13,7 +13,7 @@ put-requires c = let d = c.decimal-k in let e = d.ensures.digits ∙ decimal-is 
 pub returns : goal.returns
 returns c = let d = c.decimal-k in let a = c.args in let e = d.ensures.digits ∙ decimal-is d.result a.n d.ensures.len (omega arith) in
     record {
-        out_after = c.put.ensures.out_after ∙ ap (λ (t : List ℕ). take a.at a.out.now ++ t) e;
-        value = c.put.ensures.value ∙ ap (λ (t : List ℕ). a.at + length t) e;
-        out_unchanged = c.put.ensures.out_unchanged
+      out_after = c.put.ensures.out_after ∙ ap (λ (t : List ℕ). take a.at a.out.now ++ t) e;
+      value = c.put.ensures.value ∙ ap (λ (t : List ℕ). a.at + length t) e;
+      out_unchanged = c.put.ensures.out_unchanged;
     }

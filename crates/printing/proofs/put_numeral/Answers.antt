@@ -30,9 +30,9 @@ returns-then-lt c =
     let f = to_z-of_z c.ranges.v in
     let m = minus-text a.v n (rw f at (sym c.lt.ensures ∙ c.if-lt.true)) (rw f at c.magnitude-n.ensures) in
     rw m record {
-        out_after = put_then (take a.at a.out.now) (45 ∷ []) (decimal n) b.ensures.out_after d.ensures.out_after;
-        value = omega arith;
-        out_unchanged = kept_then a.out.now b.new.out d.new.out b.result d.result (omega arith) b.ensures.out_unchanged d.ensures.out_unchanged
+      out_after = put_then (take a.at a.out.now) (45 ∷ []) (decimal n) b.ensures.out_after d.ensures.out_after;
+      value = omega arith;
+      out_unchanged = kept_then a.out.now b.new.out d.new.out b.result d.result (omega arith) b.ensures.out_unchanged d.ensures.out_unchanged;
     }
 
 pub put_decimal-requires-2 : goal.put_decimal-requires-2

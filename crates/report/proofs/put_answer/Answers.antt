@@ -43,5 +43,5 @@ returns c =
           (put_then (take e₂.result e₂.new.out) (field (pos r.detail)) w e₃.ensures.out_after
           (put_then (take e₃.result e₃.new.out) (10 ∷ []) v e₄.ensures.out_after c.put_count_line.ensures.out_after)))
           ∙ sym (answer-pieces r);
-      value = omega (arith, simp length-append at (ap length (answer-pieces r)))
+      value = omega (arith, simp length-append at (ap length (answer-pieces r)));
     }

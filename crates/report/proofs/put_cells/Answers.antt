@@ -61,6 +61,6 @@ returns c = let s = c in
     let u = line b_name (numbers_from ROW-B w) in
     let v = line out_name (at ROW-WRITTEN w ∷ []) in
     record {
-        out_after = put_then (take a.at a.out.now) t (u ++ v) e.out_after (put_then (take p.result p.new.out) u v f.out_after g.out_after);
-        value = count a.at t u v e.value f.value g.value
+      out_after = put_then (take a.at a.out.now) t (u ++ v) e.out_after (put_then (take p.result p.new.out) u v f.out_after g.out_after);
+      value = count a.at t u v e.value f.value g.value;
     }

@@ -12,6 +12,6 @@ put_decimal-requires c = omega (arith, ap length (numeral-pos c.args.n))
 pub returns : goal.returns
 returns c = let a = c.args in let e = numeral-pos a.n in
     rw e record {
-        out_after = put_then (take a.at a.out.now) (44 ∷ []) (decimal a.n) c.put_byte-i.ensures.out_after c.put_decimal.ensures.out_after;
-        value = omega (arith, c.put_decimal.ensures.value, c.put_byte-i.ensures.value)
+      out_after = put_then (take a.at a.out.now) (44 ∷ []) (decimal a.n) c.put_byte-i.ensures.out_after c.put_decimal.ensures.out_after;
+      value = omega (arith, c.put_decimal.ensures.value, c.put_byte-i.ensures.value);
     }

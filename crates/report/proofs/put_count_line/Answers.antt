@@ -26,5 +26,5 @@ returns c =
     let t = field (pos a.n) in record {
       out_after = put_then (take a.at a.out.now) a.name.now (t ++ (10 ∷ [])) e₁.ensures.out_after (put_then (take e₁.result e₁.new.out) t (10 ∷ []) e₂.ensures.out_after c.put_byte.ensures.out_after)
           ∙ ap (λ (l : List ℕ). take a.at a.out.now ++ l) (sym (count-pieces a.name.now a.n));
-      value = omega (arith, simp length-append at (ap length (count-pieces a.name.now a.n)))
+      value = omega (arith, simp length-append at (ap length (count-pieces a.name.now a.n)));
     }

@@ -13,6 +13,6 @@ pub returns : goal.returns
 returns c = let s = c in
     let e = rw (to_z-of_z s.ranges.v) at c.put_numeral.ensures in
     record {
-        out_after = put_then (take s.args.at s.args.out.now) (44 ∷ []) (numeral s.args.v) c.put_byte-i.ensures.out_after e.out_after;
-        value = omega (arith, e.value)
+      out_after = put_then (take s.args.at s.args.out.now) (44 ∷ []) (numeral s.args.v) c.put_byte-i.ensures.out_after e.out_after;
+      value = omega (arith, e.value);
     }

@@ -39,6 +39,6 @@ pub returns : goal.returns
 unfolding line
 returns c = let a = c.args in let vs = a.fields.now in let l = c.loop-i in let e = fields-end vs l.i (omega arith) in
     record {
-        out_after = put_then (take a.at a.out.now) a.name.now (fields vs ++ (10 ∷ [])) c.put-k.ensures.out_after (put_then (take c.put-k.result c.put-k.new.out) (fields vs) (10 ∷ []) (put_last (take l.k l.out) e l.invariant.3) c.put_byte.ensures.out_after);
-        value = simp length-append (omega (arith, ap length e))
+      out_after = put_then (take a.at a.out.now) a.name.now (fields vs ++ (10 ∷ [])) c.put-k.ensures.out_after (put_then (take c.put-k.result c.put-k.new.out) (fields vs) (10 ∷ []) (put_last (take l.k l.out) e l.invariant.3) c.put_byte.ensures.out_after);
+      value = simp length-append (omega (arith, ap length e));
     }

@@ -23,6 +23,6 @@ put_byte-requires c = let a = c.args in
 pub returns : goal.returns
 returns c = let a = c.args in
     record {
-        out_after = four refused_name (field (pos a.number)) (field (pos a.place)) (10 ∷ []) c.put-i.ensures.out_after c.put_count-i.ensures.out_after c.put_count-i-2.ensures.out_after c.put_byte.ensures.out_after ∙ sym (refusal-pieces a.number a.place);
-        prefix_len = prefix_len_of_le _ _ (omega (arith, field-short a.number, field-short a.place))
+      out_after = four refused_name (field (pos a.number)) (field (pos a.place)) (10 ∷ []) c.put-i.ensures.out_after c.put_count-i.ensures.out_after c.put_count-i-2.ensures.out_after c.put_byte.ensures.out_after ∙ sym (refusal-pieces a.number a.place);
+      prefix_len = prefix_len_of_le _ _ (omega (arith, field-short a.number, field-short a.place));
     }

@@ -24,6 +24,6 @@ returns c = let a = c.args in let w = a.row.now in
     let e = rw (one_of w 9 (omega arith)) at c.put_line-i.ensures in
     let f = rw (three-of w 6 (omega arith)) at c.put_line.ensures in
     record {
-        out_after = put_then (take a.at a.out.now) (line cycles_name (at ROW-CYCLES w ∷ [])) (line regs_name (at ROW-PC w ∷ at ROW-SP w ∷ at ROW-SR w ∷ [])) e.out_after f.out_after;
-        value = simp length-append (omega arith)
+      out_after = put_then (take a.at a.out.now) (line cycles_name (at ROW-CYCLES w ∷ [])) (line regs_name (at ROW-PC w ∷ at ROW-SP w ∷ at ROW-SR w ∷ [])) e.out_after f.out_after;
+      value = simp length-append (omega arith);
     }

@@ -36,5 +36,5 @@ returns c =
       out_after = put_then [] (answer_text a.ran) (registers_text w ++ (cells_text w ++ t)) e₁.ensures.out_after
           (put_then (take e₁.result e₁.new.out) (registers_text w) (cells_text w ++ t) e₂.ensures.out_after
           (put_then (take e₂.result e₂.new.out) (cells_text w) t e₃.ensures.out_after c.put_count_line.ensures.out_after));
-      prefix_len = prefix_len_of_le _ _ (omega (arith, last_fits a.ran.empty _ _ (seven-fit a.ran w) refl))
+      prefix_len = prefix_len_of_le _ _ (omega (arith, last_fits a.ran.empty _ _ (seven-fit a.ran w) refl));
     }

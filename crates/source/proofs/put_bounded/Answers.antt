@@ -19,12 +19,12 @@ put_byte-requires c = omega (arith, length-take-le 32768 c.args.file.now (omega 
 
 pub returns-then-file-gt32768 : goal.returns-then-file-gt32768
 returns-then-file-gt32768 c = record {
-    t_after = put_then [] (take 32768 c.args.file.now) (0 ∷ []) c.put-n.ensures.out_after c.put_byte.ensures.out_after ∙ sym (bounded-long c.args.file.now (omega arith));
-    prefix_len = prefix_len_of_le _ _ (omega (arith, length-take-le 32768 c.args.file.now (omega arith), c.put-n.ensures.value, c.put_byte.ensures.value))
+  t_after = put_then [] (take 32768 c.args.file.now) (0 ∷ []) c.put-n.ensures.out_after c.put_byte.ensures.out_after ∙ sym (bounded-long c.args.file.now (omega arith));
+  prefix_len = prefix_len_of_le _ _ (omega (arith, length-take-le 32768 c.args.file.now (omega arith), c.put-n.ensures.value, c.put_byte.ensures.value));
 }
 
 pub returns : goal.returns
 returns c = record {
-    t_after = c.put.ensures.out_after ∙ sym (bounded-short c.args.file.now (omega arith));
-    prefix_len = prefix_len_of_le _ _ (omega (arith, c.put.ensures.value))
+  t_after = c.put.ensures.out_after ∙ sym (bounded-short c.args.file.now (omega arith));
+  prefix_len = prefix_len_of_le _ _ (omega (arith, c.put.ensures.value));
 }

@@ -35,5 +35,5 @@ unfolding message_text
 returns c =
     let a = c.args in record {
       err_after = seven (number_text a.place) read_name (line_at a.place a.text.now) (10 ∷ []) (number_text a.place) colon_name (expected_text a.number) c.put_number-i.ensures.err_after c.put-i.ensures.out_after c.put_line_read-i.ensures.err_after c.put_byte-i.ensures.out_after c.put_number-i-2.ensures.err_after c.put-i-2.ensures.out_after c.put_expected.ensures.err_after;
-      prefix_len = prefix_len_of_le _ _ (omega (arith, number_short a.place, line-short a.place a.text.now, expected-short a.number))
+      prefix_len = prefix_len_of_le _ _ (omega (arith, number_short a.place, line-short a.place a.text.now, expected-short a.number));
     }

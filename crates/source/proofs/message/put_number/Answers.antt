@@ -17,6 +17,6 @@ pub returns : goal.returns
 unfolding number_text
 returns c = let a = c.args in
     record {
-        err_after = put_then (take a.at a.err.now) line_name (decimal a.place) c.put-i.ensures.out_after c.put_decimal.ensures.out_after;
-        value = simp length-append (omega arith)
+      err_after = put_then (take a.at a.err.now) line_name (decimal a.place) c.put-i.ensures.out_after c.put_decimal.ensures.out_after;
+      value = simp length-append (omega arith);
     }
