@@ -7,7 +7,7 @@ use native.Mathlib.Numerals.{add-one}
 use lib.IntN.{ℤ, pos}
 use lib.ListN.{length, take, drop, get_or, length-append}
 use lib.Seq.{drop-cons}
-use Rattle.printing.proofs.Laws.{drop-end, decimal-short, numeral-short}
+use Rattle.printing.proofs.Laws.{drop-end, numeral-short}
 use Rattle.definition.specs.declared.Ran.{Ran}
 use Rattle.definition.specs.Constants.{ROW-A, ROW-B, ROW-PC, ROW-SP, ROW-SR, ROW-CYCLES, ROW-WRITTEN}
 use Rattle.definition.specs.Calls.{at}

@@ -1,6 +1,6 @@
 -- What the runner prints (document 01, "The runner"). A text is a list of bytes: 44 is a comma, 45 a minus, 10 a line end.
 use Rattle.std.specs.Prelude.{List, [], ◌∷◌, ◌++◌, ℕ, ◌+◌, ℤ, pos}
-use Rattle.printing.specs.Decimal.{decimal, numeral}
+use Rattle.printing.specs.Decimal.{numeral}
 use Rattle.definition.specs.declared.Ran.{Ran}
 use Rattle.definition.specs.Constants.{ROW-A, ROW-B, ROW-PC, ROW-SP, ROW-SR, ROW-CYCLES, ROW-WRITTEN}
 use Rattle.definition.specs.Calls.{at}

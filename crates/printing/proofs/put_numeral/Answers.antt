@@ -1,11 +1,9 @@
-use mathlib.Core.Path.{◌≡◌, sym, ap, ◌∙◌}
+use mathlib.Core.Path.{sym, ap, ◌∙◌}
 use mathlib.Core.List.{[], ◌∷◌}
-use Prim.Native.Nat.{ℕ}
 use native.Mathlib.Omega.{arith}
-use lib.IntN.{ℤ}
 use lib.ListN.{length, take}
 use mir.Facts.{to_z-of_z}
-use Rattle.printing.specs.Decimal.{decimal, numeral}
+use Rattle.printing.specs.Decimal.{decimal}
 use Rattle.printing.proofs.Laws.{put_then, kept_then, minus-text, plus-text, numeral-pos}
 use Rattle.printing.proofs.put_numeral.Goals as goal
 
