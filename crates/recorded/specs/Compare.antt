@@ -1,5 +1,5 @@
 -- What differs first, and that a comparison finds nothing exactly where the two are the same.
-use Rattle.std.specs.Prelude.{◌≡◌, Bool, true, false, cond, ◌&&◌, List, [], ◌∷◌, ℕ, eqb, ℤ}
+use Rattle.std.specs.Prelude.{◌≡◌, Bool, true, false, cond, ◌&&◌, List, [], ◌∷◌, ℕ, eqb}
 use Rattle.definition.specs.Word.{eq_z}
 use Rattle.definition.specs.Calls.{Lent}
 use Rattle.recorded.specs.declared.compare.Answer.{Answer}

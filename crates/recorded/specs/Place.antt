@@ -1,5 +1,5 @@
 -- What a line's numbers make of the list that they are put into, and whether there is such a place.
-use Rattle.std.specs.Prelude.{Bool, true, false, cond, List, ℕ, ◌+◌, ◌-◌, ◌*◌, ltb, leb, ℤ, set}
+use Rattle.std.specs.Prelude.{Bool, true, false, cond, List, ℕ, ◌+◌, ◌-◌, ◌*◌, ltb, ℤ, set}
 use Rattle.definition.specs.Constants.{ROW}
 use Rattle.definition.specs.declared.Address.{Address}
 use Rattle.definition.specs.declared.Address.TheVariants as A
