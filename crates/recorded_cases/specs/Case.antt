@@ -1,5 +1,5 @@
 -- Which line of the list may come, and what it makes of the state of the replay (host/recorded/FORMAT.md), apart from the calls.
-use Rattle.std.specs.Prelude.{ℕ, ◌+◌, ◌%◌, ◌^◌, Bool, true, false, cond, not, ◌&&◌, ◌||◌, List, ℤ, pos, ◌==◌, int_lt, nat_eq, nat_lt}
+use Rattle.std.specs.Prelude.{ℕ, ◌+◌, ◌%◌, ◌^◌, Bool, true, false, cond, ◌&&◌, ◌||◌, List, ℤ, pos, ◌==◌, int_lt, nat_eq, nat_lt}
 use Rattle.definition.specs.declared.Address.{Address}
 use Rattle.definition.specs.declared.Address.TheVariants as A
 use Rattle.definition.specs.Word.{bits, eq_z, address_of}

@@ -1,5 +1,5 @@
 -- "Room that a replaying program needs": the lengths in use lie within the arrays.
-use Rattle.std.specs.Prelude.{ℕ, ◌≤◌}
+use Rattle.std.specs.Prelude.{◌≤◌}
 use Rattle.recorded_cases.specs.declared.state.State.{State}
 
 abbrev pub Fits : State → Type 0
