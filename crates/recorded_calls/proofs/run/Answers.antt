@@ -14,7 +14,6 @@ returns c =
     let a = told.args in
     let s = a.s in
     let l = a.l in
-    let g = told.type_inv.l in
     let n = rw (back l.a (search rules)) at c.to_bits.ensures in
     let b = rw (back l.b (search rules)) at c.to_bits-2.ensures in
     let z = rw (back l.c (search rules)) at c.to_bits-3.ensures in
