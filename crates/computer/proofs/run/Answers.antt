@@ -5,7 +5,7 @@ use Rattle.definition.proofs.Total.{total-most}
 use Rattle.runtime.specs.Meaning.{machine_at, outcome_at}
 use Rattle.computer.proofs.Laws.{run-start, run-went, run-ended, run-spent, next-accepted}
 use Rattle.computer.proofs.run.Goals as goal
-use Rattle.computer.proofs.run.Goals.{then-t-ge4611686018427387904, else-t-ge4611686018427387904}
+use borrow.Author.Rules.{rules}
 
 pub loop-steps-init : goal.loop-steps-init
 loop-steps-init c = record { steps_in = omega arith; accepted = c.requires; left = run-start _ _; near = λ _. refl; empty_in = omega arith }
@@ -27,7 +27,7 @@ loop-steps-preserved c =
       steps_in = omega arith;
       accepted = rw c.uncounted-t.ensures (next-accepted _ _ r.completed r.stop r.detail i.accepted w.ensures);
       left = rw (c.uncounted-t.ensures, c.summed-empty.ensures) (run-went x.steps a.budget x.empty _ _ r.stop r.detail (omega arith) e ∙ i.left);
-      near = elim c.if-t-ge4611686018427387904.branch [ then-t-ge4611686018427387904 w ↦ λ _. w.saved-is | else-t-ge4611686018427387904 w ↦ λ n. let h = w.if-t-ge4611686018427387904.false in absurd (omega arith) ];
+      near = search rules;
       empty_in = rw c.summed-empty.ensures (total-most x.empty r.m.s.empties);
     }
 
