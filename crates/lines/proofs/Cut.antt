@@ -1,6 +1,6 @@
 -- Where a text is cut into parts does not matter. Assumes nothing.
 use mathlib.Core.Path.{◌≡◌, refl, sym, ◌∙◌}
-use mathlib.Core.List.{List, [], ◌∷◌, ◌++◌, foldl, foldl-append}
+use mathlib.Core.List.{List, [], ◌∷◌, foldl, foldl-append}
 use Prim.Native.Nat.{ℕ}
 use Rattle.lines.specs.Reader.{State, state, step, opened, empty_cells, read_text, joined, read_parts}
 

@@ -17,7 +17,7 @@ use Rattle.encoding.proofs.Rule.{both}
 use Rattle.lines.specs.declared.Field.{Field}
 use Rattle.lines.specs.declared.Start.{Start}
 use Rattle.lines.specs.declared.Reader.{Reader}
-use Rattle.lines.specs.Reader.{no_field, opened, limit, value_of, letters, letter, opening_byte, digit, comma, minus, plain, within, following, next, start_line, State, state, line_cell, cell_line, line_end, step, broken_line, empty_cells, read_text, broken}
+use Rattle.lines.specs.Reader.{no_field, opened, limit, value_of, letter, opening_byte, digit, comma, minus, plain, within, following, next, start_line, State, state, line_cell, cell_line, line_end, step, broken_line, empty_cells, read_text, broken}
 use Rattle.lines.specs.Grammar.{Digits, Numeral, StartLine, CellLine, CellLines, Image, Front, Good, Breaks}
 use Rattle.lines.specs.Grammar as G
 use Rattle.decimal.specs.Decimal as D

@@ -1,6 +1,6 @@
 -- The numeric lines that the runner took (document 01, "The runner"), written without the reader. A text is a list of bytes: 44 is a comma, 45 a
 -- minus, 10 a line end.
-use Rattle.std.specs.Prelude.{◌≡◌, true, List, [], ◌∷◌, ◌++◌, ℕ, suc, ◌+◌, ◌≤◌, ℤ, pos, neg_ℤ, nat_abs, replicate}
+use Rattle.std.specs.Prelude.{◌≡◌, true, List, [], ◌∷◌, ◌++◌, ℕ, suc, ◌≤◌, ℤ, pos, neg_ℤ, nat_abs, replicate}
 use Rattle.definition.specs.Word.{address_of}
 use Rattle.definition.specs.Memory.{cell, put_cell}
 use Rattle.definition.specs.Encoding.{sound, is_address}

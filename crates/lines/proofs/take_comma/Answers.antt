@@ -1,5 +1,4 @@
 use borrow.Author.Rules.{rules}
-use mathlib.Core.Bool.{true, false}
 use lib.Dec.{ltb}
 use borrow.Author.Tests.{ltb-true}
 use Rattle.encoding.proofs.Rule.{both}
