@@ -29,10 +29,8 @@ no_part a xs u failed h =
     let z : a + 0 ≡ a = omega arith in
     record { part = []; taken = rw z at (part-taken a 0 xs u h); last = refl; unread = λ f. refl }
 
-pub some-part : (a n : ℕ) (xs u : List ℕ) → a ≤ length xs → 0 < n → a + n ≤ length (take a xs ++ u) → PartRead (take a xs) (take (a + n) (take a xs ++ u)) false false
-some-part a n xs u h k l =
-    let m : n ≤ length u = omega (arith, length-append (take a xs) u, front_long a xs h) in
-    record { part = take n u; taken = part-taken a n xs u h; last = sym (ne_eqb (length (take n u)) 0 (λ z. omega (arith, front_long n u m))); unread = λ f. absurd (false≢true f) }
+pub read_more : (a n : ℕ) (xs u : List ℕ) → a ≤ length xs → n ≤ length u → PartRead (take a xs) (take (a + n) (take a xs ++ u)) (eqb n 0) false
+read_more a n xs u h k = record { part = take n u; taken = part-taken a n xs u h; last = sym (ap (λ (m : ℕ). eqb m 0) (front_long n u k)); unread = λ f. absurd (false≢true f) }
 
 pub within : (a k n : ℕ) (t : List ℕ) → n ≤ length (take k (drop a t)) → a ≤ length t → a + n ≤ length t
 within a k n t l h = omega (arith, length-drop a t, simp length-take at l)

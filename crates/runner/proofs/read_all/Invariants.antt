@@ -4,7 +4,7 @@ use lib.ListN.{length}
 use Rattle.runner.proofs.read_all.Given as goal
 
 abbrev pub invariant-loop-at : goal.invariant-loop-at
-invariant-loop-at l = (l.at ≤ length l.text) × (length l.text ≡ length l.initial.text)
+invariant-loop-at g l = (l.at ≤ length l.text) × (length l.text ≡ length l.initial.text)
 
 abbrev pub decreases-loop-at : goal.decreases-loop-at
-decreases-loop-at l = length l.text - l.at
+decreases-loop-at g l = length l.text - l.at
