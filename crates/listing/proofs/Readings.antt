@@ -12,7 +12,6 @@ use lib.Dec.{eqb}
 use borrow.Author.Tests.{ltb-true, eqb-true, lt-ltb}
 use Rattle.definition.specs.declared.Cell.{Cell}
 use Rattle.definition.specs.Word.{is_word, eq_z, address_of}
-use Rattle.definition.specs.Memory.{cell, word}
 use Rattle.definition.specs.Encoding.{legal, signature, op_at, allows, op_number, mode₁, mode₂, reg₁, reg₂, tag_of, sound, sound_at, sound_instruction, register_fits, number_fits, is_address}
 use Rattle.definition.proofs.Encoding.{tag-laws}
 use Rattle.word.proofs.Laws.{ltb-elim}
