@@ -1,5 +1,4 @@
 use mathlib.Core.Path.{refl, sym, ◌∙◌}
-use Prim.Native.Nat.{◌-◌}
 use native.Mathlib.Omega.{arith}
 use Rattle.source.proofs.Laws.{numeric-here, numeric-later, numeric-over}
 use Rattle.source.proofs.numeric.lowest_numeric.Goals as goal
