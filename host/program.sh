@@ -1,6 +1,6 @@
 # To be sourced by a command at the top, which has set here (this repository), tool (its own name), program (a crate) and name (what the program is called). The
 # program is proved and built first where that was not yet done from these sources; then $binary is it. Standard output has the program's bytes and nothing
-# else; a Rattle program has no exit status, so it is told from what was printed.
+# else; how it went is told from what was printed, and a status other than 0 is a fault.
 
 say() { printf '%s: %s\n' "$tool" "$*" >&2; }
 end() { say "$*"; exit 2; }
