@@ -13,11 +13,6 @@ loop-i-init c = (refl, (search rules, c.requires))
 pub take_byte-p-requires : goal.take_byte-p-requires
 take_byte-p-requires c = c.loop-i.invariant.1.1
 
-pub overflow_add-i : goal.overflow_add-i
-overflow_add-i c = let h = c.loop-i-test.true in
-    let g = c.well-formed in
-    search (rules, h, g)
-
 pub loop-i-preserved : goal.loop-i-preserved
 loop-i-preserved c = let v = c.loop-i in
     let h = c.loop-i-test.true in
