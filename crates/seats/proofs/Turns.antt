@@ -12,7 +12,7 @@ use Rattle.bench.specs.declared.Seat.{Seat}
 use Rattle.bench.specs.declared.clock.Clock.{Clock}
 use Rattle.bench.specs.declared.clock.Took.{Took}
 use Rattle.bench.specs.Seat.{can_go_on, turn_budget, after}
-use Rattle.bench.specs.Bench.{Seated, seated, part_of, machine_at, takes_turn, turn, turned, taken}
+use Rattle.bench.specs.Bench.{seated, part_of, machine_at, takes_turn, turn, turned, taken}
 use Rattle.bench.specs.Clock.{with_part, with_machine, seated_at, turn_of}
 use Rattle.seats.specs.Meaning.{ran_at}
 use Rattle.seats.proofs.Stops.{call-few}

@@ -6,7 +6,7 @@ use Prim.Native.Nat.{ℕ, ◌+◌, ◌<◌, ◌≤◌, ◌^◌}
 use native.Mathlib.Omega.{arith}
 use lib.ListN.{length, get_or, set}
 use lib.Dec.{ltb, eqb}
-use Rattle.definition.specs.Calls.{Lent, lent, Called, called}
+use Rattle.definition.specs.Calls.{Lent, Called, called}
 use Rattle.definition.specs.UserMode.{Accepted}
 use Rattle.bench.specs.declared.Seat.{Seat}
 use Rattle.bench.specs.declared.Benched.{Benched}

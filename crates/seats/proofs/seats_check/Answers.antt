@@ -1,11 +1,11 @@
-use mathlib.Core.Path.{◌≡◌, ap, ◌∙◌}
-use Prim.Native.Nat.{ℕ, ◌+◌, ◌-◌, ◌≤◌}
+use mathlib.Core.Path.{ap, ◌∙◌}
+use Prim.Native.Nat.{◌+◌}
 use borrow.Author.Rules.{rules}
 use Rattle.definition.specs.declared.Done.{Done}
-use Rattle.definition.specs.Calls.{Lent, lent}
+use Rattle.definition.specs.Calls.{lent}
 use Rattle.checks.proofs.Verdict.{passed-by, refused-by}
-use Rattle.bench.specs.Bench.{machines, benched, seat_by_seat}
-use Rattle.seats.proofs.Checks.{check_from, from_first, seat-passed, seat-refused, all-passed}
+use Rattle.bench.specs.Bench.{benched}
+use Rattle.seats.proofs.Checks.{from_first, seat-passed, seat-refused, all-passed}
 use Rattle.seats.proofs.seats_check.Goals as goal
 
 pub loop-k-init : goal.loop-k-init
