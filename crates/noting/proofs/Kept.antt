@@ -12,7 +12,7 @@ use Rattle.definition.specs.Runtime.{Machine, step}
 use Rattle.definition.specs.Accepted.{AcceptedMachine}
 use Rattle.runtime.specs.declared.State.{State}
 use Rattle.runtime.specs.Meaning.{machine_at}
-use Rattle.journal.specs.Writes.{Held, step_writes}
+use Rattle.journal.specs.Writes.{step_writes}
 use Rattle.journal.specs.Journal.{record_of, start_of, count_of, records, put_record, remember, is_journal, begun, step_record, noted}
 use Rattle.journal.proofs.Ring.{JournalIn, journal-in, journal-is, put-length, put_front, records-length}
 use Rattle.journal.proofs.Record.{record-length}

@@ -19,7 +19,7 @@ use Rattle.definition.specs.Memory.{cell_count, cell_at, put_cell}
 use Rattle.definition.specs.Registers.{interrupt_enable}
 use Rattle.definition.specs.Timer.{with_timer_mark, tick}
 use Rattle.definition.specs.Encoding.{Instruction}
-use Rattle.definition.specs.Exec.{Core, core, Res, ok, err, and_then}
+use Rattle.definition.specs.Exec.{core, Res, ok, err, and_then}
 use Rattle.definition.specs.Runtime as M
 use Rattle.definition.specs.Runtime.{Machine, with_core, with_mark, with_timer, executed, has_handler}
 use Rattle.definition.proofs.Cells.{cell_same, cell_other}
@@ -32,7 +32,7 @@ use Rattle.runtime.specs.declared.State.{State}
 use Rattle.runtime.specs.declared.fetch.Fetched.{Fetched}
 use Rattle.runtime.specs.declared.perform.Served.{Served}
 use Rattle.runtime.specs.declared.arrive.Arrival.{Arrival}
-use Rattle.runtime.specs.Meaning.{machine_at, guard_of, effects_at, turn_of, Fetches, performed_res, concluded_by, concluded, served_turn, Serves, Concludes}
+use Rattle.runtime.specs.Meaning.{machine_at, guard_of, effects_at, turn_of, Fetches, performed_res, concluded_by, concluded, Serves, Concludes}
 use Rattle.computer.proofs.Laws.{turn_is, full-step}
 use Rattle.journal.specs.Writes.{Held, held_at, aim, aimed, wrote_there, instruction_writes, entry_writes, step_writes}
 use Rattle.journal.specs.Journal.{begins, begun}

@@ -1,6 +1,6 @@
 -- From an executed instruction to the decided step: what each branch of the code says of the definition.
 use mathlib.Core.Path.{◌≡◌, refl, sym, ap, ◌∙◌}
-use mathlib.Core.Bool.{Bool, true, false, not, cond, ◌&&◌, ◌||◌, true≢false}
+use mathlib.Core.Bool.{Bool, true, false, not, cond, true≢false}
 use mathlib.Core.List.{List, [], ◌∷◌}
 use Prim.Native.Nat.{ℕ, suc, ◌+◌, ◌<◌, ◌≤◌}
 use native.Mathlib.Omega.{arith}
@@ -9,7 +9,7 @@ use lib.ListN.{length}
 use Rattle.definition.specs.declared.Registers.{Registers}
 use Rattle.definition.specs.declared.Timer.{Timer}
 use Rattle.definition.specs.Constants.{CYCLES-END}
-use Rattle.definition.specs.Exception.{Ending, exception, stop, ending, NO-HANDLER, CYCLES-FULL}
+use Rattle.definition.specs.Exception.{exception, stop, ending, CYCLES-FULL}
 use Rattle.definition.specs.Memory.{cell_count, empty}
 use Rattle.definition.specs.Registers.{interrupt_enable}
 use Rattle.definition.specs.Exec.{core}
@@ -22,9 +22,8 @@ use Rattle.runtime.specs.declared.effects.Effects.{Effects}
 use Rattle.runtime.specs.declared.ending.Ends.{Ends}
 use Rattle.runtime.specs.declared.arrive.Performed.{Performed}
 use Rattle.runtime.specs.declared.arrive.Arrival.{Arrival}
-use Rattle.runtime.specs.declared.arrive.Polled.{Polled}
 use Rattle.runtime.specs.declared.decide.Decision.{Decision}
-use Rattle.runtime.specs.Meaning.{machine_at, ending_of, sent, written, raising, effects_at, turn_at, turn_of, polled, concluded_by, concluded, Concludes, outcome_at, committed, elapses_by, settled_by, spent, decided_of, Decides}
+use Rattle.runtime.specs.Meaning.{machine_at, ending_of, sent, written, raising, effects_at, turn_at, turn_of, polled, Concludes, outcome_at, committed, elapses_by, settled_by, spent, decided_of, Decides}
 use Rattle.stores.specs.Meaning.{planned, core_of}
 use Rattle.console.specs.Meaning.{console_of}
 use Rattle.memory.proofs.Laws.{over-no-cell}

@@ -1,21 +1,21 @@
 -- Laws of entry and fetch.
 use mathlib.Core.Path.{◌≡◌, refl, sym, ap, ◌∙◌}
-use mathlib.Core.Bool.{Bool, true, false, cond, true≢false, ◌&&◌}
+use mathlib.Core.Bool.{Bool, true, false, cond, true≢false}
 use mathlib.Core.List.{List}
-use Prim.Native.Nat.{ℕ, zero, suc, ◌+◌, ◌-◌, ◌*◌, ◌/◌, ◌<◌, ◌≤◌}
+use Prim.Native.Nat.{ℕ, zero, suc, ◌+◌, ◌-◌, ◌<◌, ◌≤◌}
 use native.Mathlib.Omega.{arith}
 use lib.IntN.{ℤ, pos, negsuc, nat_abs}
 use lib.Signed.{lt_z}
 use lib.Dec.{ltb}
-use borrow.Author.Tests.{ltb-true, ltb-false, lt-ltb, le-ltb}
+use borrow.Author.Tests.{ltb-true}
 use Rattle.definition.specs.declared.Cell.{Cell}
 use Rattle.definition.specs.declared.Registers.{Registers}
 use Rattle.definition.specs.declared.Error.TheVariants.{InvalidMemoryAccess}
 use Rattle.definition.specs.Registers.{with_pc}
-use Rattle.definition.specs.Exec.{core, and_then, or_cell, ok, err}
+use Rattle.definition.specs.Exec.{core, and_then, or_cell, err}
 use Rattle.memory.proofs.Laws.{get_in, get-out, over-in}
 use Rattle.definition.specs.Memory.{cell_count, cell_at, put_cell, is_instruction}
-use Rattle.definition.specs.Encoding.{Extracted, instruction, no_instruction, decode, instruction_at, extract_instruction, sound, sound_at, legal, cost}
+use Rattle.definition.specs.Encoding.{instruction, no_instruction, decode, instruction_at, extract_instruction, sound_at, legal, cost}
 use Rattle.definition.specs.Arguments.{mode_cost}
 use Rattle.definition.specs.Word.{put_bit}
 use Rattle.definition.specs.Runtime.{has_handler, entered_sr, or_instruction, fetch}

@@ -7,11 +7,10 @@ use native.Mathlib.Omega.{arith}
 use lib.IntN.{ℤ, pos}
 use lib.ListN.{length, replicate, length-replicate}
 use lib.Dec.{eqb, leb}
-use borrow.Author.Tests.{eqb-true, eqb-false, eq-eqb, ne_eqb, leb-false}
+use borrow.Author.Tests.{eqb-true, eq-eqb, ne_eqb, leb-false}
 use Rattle.definition.specs.declared.Registers.{Registers}
 use Rattle.definition.specs.declared.Error.{Error}
 use Rattle.definition.specs.declared.Timer.{Timer}
-use Rattle.definition.specs.Exception.{OUTPUT-FULL}
 use Rattle.definition.specs.Memory.{cell_count, empty, word}
 use Rattle.definition.specs.Registers.{Reg, reg_at}
 use Rattle.definition.specs.Encoding.{op_at}
@@ -34,7 +33,6 @@ use Rattle.console.specs.declared.ConsoleState.{ConsoleState}
 use Rattle.console.specs.declared.Sent.{Sent}
 use Rattle.console.specs.Meaning.{console_of, Sends}
 use Rattle.runtime.specs.declared.arrive.Performed.{Performed}
-use Rattle.runtime.specs.declared.perform.Served.{Served}
 use Rattle.runtime.specs.Meaning.{sent, unsent, concluded_by, done, attempted, executed_at, Serves}
 use Rattle.memory.proofs.Laws.{over-no-cell}
 

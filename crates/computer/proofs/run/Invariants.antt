@@ -1,6 +1,5 @@
 use mathlib.Core.Path.{◌≡◌}
 use Prim.Native.Nat.{◌≤◌, ◌-◌}
-use lib.ListN.{length}
 use Rattle.definition.specs.Total.{TOTAL-MOST}
 use Rattle.definition.specs.Runtime.{run, later}
 use Rattle.definition.specs.Accepted.{AcceptedMachine}

@@ -3,7 +3,7 @@ use mathlib.Core.Bool.{true≢false}
 use mathlib.Core.List.{List}
 use Prim.Native.Nat.{ℕ}
 use native.Mathlib.Omega.{arith}
-use Rattle.runtime.specs.Meaning.{machine_at, outcome_at, raising}
+use Rattle.runtime.specs.Meaning.{machine_at, outcome_at}
 use Rattle.runtime.proofs.Decided.{no_byte, raises-full, raises}
 use Rattle.runtime.proofs.raise.raise.Goals as goal
 
