@@ -6,7 +6,7 @@ use Prim.Native.Nat.{ℕ, suc, ◌+◌, ◌≤◌, ◌<◌}
 use native.Mathlib.Omega.{arith}
 use lib.Dec.{eqb}
 use lib.ListN.{length, take, drop, length-append, length-drop, length-take}
-use borrow.Author.Tests.{ne_eqb, eqb-false}
+use borrow.Author.Tests.{eqb-false}
 use Rattle.expression.proofs.Spans.{by_bool}
 use Rattle.runner.specs.Input.{PartRead}
 
