@@ -1,4 +1,3 @@
-use Prim.Native.Nat.{◌-◌}
 use native.Mathlib.Omega.{arith}
 use Rattle.runner_cases.proofs.Laws.{counted_none, counted-more, counted-rest, counted-whole}
 use Rattle.runner_cases.proofs.replay.Goals as goal
