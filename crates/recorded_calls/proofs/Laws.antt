@@ -1,6 +1,6 @@
 -- Every byte leaves the lengths within their room. Assumes nothing.
-use mathlib.Core.Path.{◌≡◌, refl}
-use mathlib.Core.Bool.{Bool, true, false, cond, ◌&&◌}
+use mathlib.Core.Path.{◌≡◌}
+use mathlib.Core.Bool.{true, false, ◌&&◌}
 use mathlib.Core.List.{List}
 use Prim.Native.Nat.{ℕ, ◌≤◌}
 use native.Mathlib.Omega.{arith}
@@ -17,9 +17,9 @@ use Rattle.recorded.specs.declared.reader.Fed.TheVariants as Fd
 use Rattle.recorded.specs.Reader.{fed}
 use Rattle.recorded_cases.specs.declared.state.State.{State}
 use Rattle.recorded_cases.specs.Room.{Fits}
-use Rattle.recorded_cases.specs.Case.{both, due, fails, next_line, size_of, kind_of, close_line, other_line}
+use Rattle.recorded_cases.specs.Case.{fails, next_line, size_of, kind_of, close_line, other_line}
 use Rattle.recorded_cases.proofs.Laws.{by_cond, fits-opened, fits-other, fits_byte, fits-before, fits_after, fits-close}
-use Rattle.recorded_calls.specs.Replay.{run_line, deliver_line, drain_line, raise_line, set_line, Calling, calling, call_line, open_line, Replay, kind_done, line_done, with_state, Reading, on_fed, byte_taken}
+use Rattle.recorded_calls.specs.Replay.{run_line, deliver_line, drain_line, raise_line, set_line, Calling, calling, call_line, open_line, Replay, kind_done, with_state, Reading, on_fed, byte_taken}
 
 -- after a call with a drain buffer of n bytes
 fits-called : (s : State) (n : ℕ) → Fits s → n ≤ 128 → (s.queue ≤ 256) × ((s.output ≤ 4096) × ((0 ≤ 8) × (n ≤ 128)))

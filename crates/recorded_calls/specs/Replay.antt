@@ -1,6 +1,6 @@
 -- "How to replay": the lines that call, and what every byte of the list makes of the replay (host/recorded/FORMAT.md).
-use Rattle.std.specs.Prelude.{Bool, true, false, cond, ◌&&◌, ℕ, ltb, eqb, ℤ, pos, length, take, drop, replicate}
-use mathlib.Core.List.{List, [], ◌∷◌, ◌++◌, foldl}
+use Rattle.std.specs.Prelude.{cond, ◌&&◌, ℕ, ltb, eqb, ℤ, pos, length, take, drop, replicate}
+use mathlib.Core.List.{List, ◌++◌, foldl}
 use Rattle.std.specs.Int.Signed.{lt_z}
 use Rattle.definition.specs.Constants.{ROW}
 use Rattle.definition.specs.Word.{bits}
@@ -17,7 +17,7 @@ use Rattle.recorded.specs.declared.reader.Fed.TheVariants as Fd
 use Rattle.recorded.specs.Compare.{answer_fault}
 use Rattle.recorded.specs.Reader.{no_line, fed}
 use Rattle.recorded_cases.specs.declared.state.State.{State}
-use Rattle.recorded_cases.specs.Case.{started, fails, with_fault, next_line, one_more, broken_line, text_end, kind_of, size_of, other_line, opened, byte_line, Both, both, before_line, Due, due, after_line, close_line}
+use Rattle.recorded_cases.specs.Case.{started, fails, with_fault, next_line, one_more, broken_line, text_end, kind_of, size_of, other_line, opened, byte_line, Both, both, before_line, due, after_line, close_line}
 use Rattle.recorded_cases.specs.Verdict.{verdict_text}
 
 -- ---- the calls

@@ -4,7 +4,7 @@ use mathlib.Core.List.{List}
 use Prim.Native.Nat.{ℕ}
 use lib.IntN.{ℤ}
 use Rattle.definition.specs.declared.Done.{Done}
-use Rattle.definition.specs.Calls.{Called, called}
+use Rattle.definition.specs.Calls.{Called}
 use Rattle.definition.specs.Word.{bits}
 use Rattle.word.proofs.Laws.{back}
 use borrow.Author.Tests.{eq-eqb, ne_eqb}

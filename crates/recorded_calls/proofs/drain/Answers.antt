@@ -5,7 +5,7 @@ use Prim.Native.Nat.{ℕ}
 use lib.IntN.{ℤ}
 use lib.ListN.{length, replicate}
 use Rattle.definition.specs.declared.Drained.{Drained}
-use Rattle.definition.specs.Calls.{Called, called}
+use Rattle.definition.specs.Calls.{Called}
 use Rattle.definition.specs.Word.{bits}
 use Rattle.word.proofs.Laws.{back}
 use borrow.Author.Tests.{lt-ltb, le-ltb}

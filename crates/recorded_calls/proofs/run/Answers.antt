@@ -1,7 +1,7 @@
 use borrow.Author.Rules.{rules}
 use mathlib.Core.Path.{ap}
 use Rattle.definition.specs.declared.Ran.{Ran}
-use Rattle.definition.specs.Calls.{Called, called, Lent}
+use Rattle.definition.specs.Calls.{Called, Lent}
 use Rattle.definition.specs.Word.{bits}
 use Rattle.word.proofs.Laws.{back}
 use Rattle.recorded_calls.specs.Replay.{run_answer, after_call, run_line}

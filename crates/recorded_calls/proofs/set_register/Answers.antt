@@ -3,7 +3,7 @@ use mathlib.Core.Path.{sym, ap, ◌∙◌}
 use mathlib.Core.List.{List}
 use lib.IntN.{ℤ}
 use Rattle.definition.specs.declared.Done.{Done}
-use Rattle.definition.specs.Calls.{Called, called}
+use Rattle.definition.specs.Calls.{Called}
 use Rattle.definition.specs.Word.{bits}
 use Rattle.word.proofs.Laws.{back}
 use Rattle.recorded_calls.specs.Replay.{answer, after_call, set_line}

@@ -5,7 +5,7 @@ use Prim.Native.Nat.{ℕ}
 use Rattle.definition.specs.Calls.{lent}
 use borrow.Author.Tests.{eq-eqb, ne_eqb}
 use Rattle.recorded_cases.specs.declared.state.State.{State}
-use Rattle.recorded_cases.specs.Case.{Both, Due, due}
+use Rattle.recorded_cases.specs.Case.{Both, Due}
 use Rattle.recorded_calls.specs.Replay.{Calling, replay, kind_done}
 use Rattle.recorded_calls.proofs.act.act.Goals as goal
 
