@@ -1,5 +1,4 @@
 use mathlib.Core.Path.{refl, ◌∙◌}
-use Prim.Native.Nat.{◌-◌}
 use native.Mathlib.Omega.{arith}
 use Rattle.definition.specs.Calls.{lent}
 use Rattle.recorded_calls.specs.Replay.{replay, reading}
