@@ -5,7 +5,7 @@
 
 mod names;
 
-ghost use Rattle.std.specs.Prelude.{◌≡◌, length, take, replicate};
+ghost use Rattle.std.specs.Prelude.{◌≡◌, length, take, replicate, is_some};
 ghost use Rattle.io.specs.Counts.{IsPrefixLen};
 ghost use Rattle.lines.specs.Reader.{state, opened};
 ghost use Rattle.lister.specs.Output.{seen, leave_of, listing_text, output_of, output, PartRead, TextRead, Printed};
@@ -54,7 +54,8 @@ fn no_output() -> [u8; 163840]
 // Takes what one read gives.
 fn read_part<R: Read>(from: &mut R, cells: &mut [i64], p: Progress) -> Turn
     requires { length cells.old ≡ 6144 }
-    ensures { PartRead (seen (state p.reader cells.old) p.named) (seen (state result.progress.reader cells.new) result.progress.named) result.ended result.failed }
+    ensures part_read { PartRead (seen (state p.reader cells.old) p.named) (seen (state result.progress.reader cells.new) result.progress.named) result.ended result.failed }
+    ensures told { result.failed ≡ is_some result.error }
 {
     let mut buf = io::large_buffer();
     let n = match from.read(&mut buf) {
@@ -88,7 +89,8 @@ fn read_part<R: Read>(from: &mut R, cells: &mut [i64], p: Progress) -> Turn
 // No input uses up so many turns.
 fn read_all<R: Read>(from: &mut R, cells: &mut [i64]) -> Input
     requires { length cells.old ≡ 6144 }
-    ensures { TextRead (seen (state opened cells.old) 0) (seen (state result.progress.reader cells.new) result.progress.named) }
+    ensures text_read { TextRead (seen (state opened cells.old) 0) (seen (state result.progress.reader cells.new) result.progress.named) }
+    ensures told { result.failed ≡ is_some result.error }
 {
     let mut p = names::open();
     let mut turns = u64::MAX;
@@ -156,6 +158,7 @@ fn put_input<R: Read>(from: &mut R, word: &[u8], out: &mut [u8]) -> Put
     requires { length out.old ≡ 163840 }
     ensures printed { Printed word.now result.failed result.length out.new }
     ensures prefix_len { IsPrefixLen result.length out.new }
+    ensures told { result.failed ≡ is_some result.error }
 {
     let mut cells = lines::empty_cells();
     let t = read_all(from, &mut cells);

@@ -3,7 +3,7 @@
 // text, and what is written is made by `put_input`.
 #![tactic(auto)]
 
-ghost use Rattle.std.specs.Prelude.{◌≡◌, ◌≤◌, length, take, replicate};
+ghost use Rattle.std.specs.Prelude.{◌≡◌, ◌≤◌, length, take, replicate, is_some};
 ghost use Rattle.io.specs.Counts.{IsPrefixLen};
 ghost use Rattle.runner.specs.Input.{PartRead, Printed};
 
@@ -61,6 +61,7 @@ fn read_part<R: Read>(from: &mut R, text: &mut [u8], at: usize) -> Part
     requires { at ≤ length text.old }
     ensures part_read { PartRead (take at text.old) (take result.at text.new) result.ended result.failed }
     ensures at_le_at { (at ≤ result.at) × (result.at ≤ length text.new) }
+    ensures told { result.failed ≡ is_some result.error }
 {
     match from.read(&mut text[at..]) {
         Ok(n) => Part {
@@ -79,7 +80,8 @@ fn read_part<R: Read>(from: &mut R, text: &mut [u8], at: usize) -> Part
 }
 
 fn read_all<R: Read>(from: &mut R, text: &mut [u8]) -> Text
-    ensures { IsPrefixLen result.length text.new }
+    ensures prefix_len { IsPrefixLen result.length text.new }
+    ensures told { result.failed ≡ is_some result.error }
 {
     let mut at: usize = 0;
     while at < text.len() {
@@ -105,6 +107,7 @@ fn put_input<R: Read>(from: &mut R, out: &mut [u8], err: &mut [u8]) -> Put
     requires { (length out.old ≡ 512) × (length err.old ≡ 33792) }
     ensures printed { Printed result.failed result.out out.new result.err err.new }
     ensures prefix_len { IsPrefixLen result.out out.new × IsPrefixLen result.err err.new }
+    ensures told { result.failed ≡ is_some result.error }
 {
     let mut text = no_text();
     let t = read_all(from, &mut text);
