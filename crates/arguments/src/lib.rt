@@ -1,207 +1,156 @@
-// arguments.rs: what an operand names and gives. Which error an operand ends in, and what taking it leaves of the registers, is said here alone (taken.rt).
+// arguments.rs: what an operand names and gives. Which error an operand ends in, and what taking it leaves of the registers, is said here alone.
 #![tactic(auto)]
 
-ghost use Rattle.std.specs.Prelude.{◌≡◌, List, ℤ, ◌+ℤ◌};
-ghost use Rattle.definition.specs.declared.Error.TheVariants.{InvalidMemoryAccess};
-ghost use Rattle.definition.specs.Word.{wrap, address_of};
-ghost use Rattle.definition.specs.Memory.{extract_word};
-ghost use Rattle.definition.specs.Registers.{reg_at, get_reg};
-ghost use Rattle.definition.specs.Arguments.{resolve, read_there, cell_there};
-ghost use Rattle.definition.specs.Exec.{core, read};
+ghost use Rattle.std.specs.Prelude.{◌≡◌, List, ℤ};
+ghost use Rattle.definition.specs.declared.Error.TheVariants.{InvalidMemoryAccess, Extract};
+ghost use Rattle.definition.specs.Arguments.{indexed, resolve, resolved, cell_there, extract_cell};
+ghost use Rattle.definition.specs.Exec.{core, take_word, take_address, or_given, read};
 ghost use Rattle.definition.specs.Instructions.{cell_of, word_of, target_of, register_word, place_of};
 ghost use Rattle.memory.specs.Overlay.{overlay};
-ghost use Rattle.arguments.specs.Operands.{arg_of, base_at, index_at, address_from, is_value, value_of};
-ghost use Rattle.arguments.specs.Taken.{took_word, took_address, took_cell};
+ghost use Rattle.registers.specs.Meaning.{res_of, planned, core_of};
 
-use definition::{Address, Cell, Error, Found, Given, Registers, Word};
-use taken::{AddressTaken, CellTaken, WordTaken};
-
-pub mod taken;
-
-// An operand as decoded: "modes: 0 none, 1 immediate, 2 register, 3 direct, 4 indirect, 5 indexed".
-#[derive(Clone, Copy)]
-pub struct Arg {
-    pub mode: u32,
-    pub reg: u32,
-    pub number: i64,
-}
-
-// The address that an operand names, and the word of its register that it was taken from: where it has no such register, a word that is no empty cell's.
-#[derive(Clone, Copy)]
-pub struct Resolved {
-    pub base: Word,
-    pub at: Address,
-}
-
-// The word that the address counts from: 0, or the register's.
-fn base(v: Cell, mode: u32) -> Word
-    ensures { result ≡ base_at mode (extract_word v) }
-{
-    let w = memory::extract_word(v);
-    match mode {
-        3 => Word::Is(0),
-        4 => w,
-        5 => w,
-        _ => Word::NotWord,
-    }
-}
-
-// What is added to it.
-fn index(mode: u32, number: i64) -> i64
-    ensures { result ≡ index_at mode number }
-{
-    if mode == 4 { 0 } else { number }
-}
+use definition::{Cell, Error, Missing, Operand, Reg, Registers, Word};
+use memory::Write;
+use registers::Plan;
 
 // "an indexed sum wraps at 64 bits before it is tested as an address"
-fn sum(w: i64, index: i64) -> Address
-    ensures { result ≡ address_of (wrap (w +ℤ index)) }
+#[tactic(auto, using(word::proofs::Laws::back), unfolding(definition::specs::Arguments::indexed, definition::specs::Word::wrap, definition::specs::Word::wrapped))]
+fn indexed(w: Word, k: i64) -> Option<u32>
+    ensures { result ≡ indexed w k }
 {
-    let sum = word::add(w, index);
-    word::to_address(sum.value)
-}
-
-fn address_from(base: Word, mode: u32, number: i64) -> Address
-    ensures { result ≡ address_from mode base number }
-{
-    let i = index(mode, number);
-    match base {
-        Word::Is(w) => sum(w, i),
-        Word::Empty => sum(0, i),
-        Word::NotWord => Address::NotAddress,
-    }
+    let base = match w {
+        Word::Is(n) => n,
+        Word::Empty => 0,
+        Word::NotWord => return None,
+    };
+    word::to_address(word::add(base, k).value)
 }
 
 // ResolveAddress: Dir, Ind, Idx
-fn resolve(s: Registers, x: Arg) -> Resolved
-    ensures { result ≡ record { base = base_at x.mode (extract_word (get_reg (reg_at x.reg) s)); at = resolve (arg_of x) s } }
+#[tactic(auto, using(word::proofs::Laws::back), unfolding(definition::specs::Arguments::resolve))]
+fn resolve(s: &Registers, x: Operand) -> Option<u32>
+    ensures { result ≡ resolve x s.now }
 {
-    let base = base(registers::get_reg(s, x.reg), x.mode);
-    Resolved {
-        base,
-        at: address_from(base, x.mode, x.number),
+    match x {
+        Operand::Dir(w) => word::to_address(w),
+        Operand::Ind(r) => memory::extract_address(registers::get_reg(s, r)),
+        Operand::Idx(r, k) => indexed(memory::extract_word(registers::get_reg(s, r)), k),
+        Operand::Absent | Operand::Imm(_) | Operand::Register(_) => None,
     }
 }
 
-// Imm, Reg: an operand that names no address.
-fn is_value(mode: u32) -> bool
-    ensures { result ≡ is_value mode }
+// The word of the address register is taken.
+#[tactic(auto, unfolding(definition::specs::Arguments::resolved))]
+fn count_base(s: &mut Registers, x: Operand)
+    ensures { s.new ≡ resolved x s.old }
 {
-    (mode == 1) | (mode == 2)
-}
-
-fn value(s: Registers, x: Arg) -> Cell
-    ensures { result ≡ value_of x s }
-{
-    let mode = x.mode;
-    if mode == 1 {
-        memory::word_cell(x.number)
-    } else {
-        registers::get_reg(s, x.reg)
-    }
-}
-
-// "not below the count of cells"
-fn read_there(v: Found) -> Given
-    ensures { result ≡ read_there v }
-{
-    match v {
-        Found::Here(v) => Given::Gives(v),
-        Found::Outside => Given::OutsideCells,
+    if let Operand::Ind(r) | Operand::Idx(r, _) = x {
+        let base = memory::extract_word(registers::get_reg(s, r));
+        registers::count(s, base);
     }
 }
 
 // The cell at an address that may be none.
-fn cell_there(cells: &[i64], n: Address) -> Given
-    ensures { result ≡ cell_there n cells.now }
+#[tactic(auto, unfolding(definition::specs::Arguments::cell_there, definition::specs::Arguments::read_there))]
+fn cell_there(cells: &[i64], write: Option<Write>, n: Option<u32>) -> Result<Cell, Missing>
+    ensures { result ≡ cell_there n (overlay write cells.now) }
 {
-    match n {
-        Address::At(n) => read_there(memory::get(cells, n)),
-        Address::NotAddress => Given::NoAddress,
+    let n = n.ok_or(Missing::NoAddress)?;
+    memory::read_over(cells, write, n).ok_or(Missing::OutsideCells)
+}
+
+// ExtractValue: Imm, Reg, Dir, Ind, Idx
+#[tactic(auto, using(word::proofs::Laws::back), unfolding(definition::specs::Arguments::extract_cell))]
+fn extract_cell(cells: &[i64], p: &Plan, x: Operand) -> Result<Cell, Missing>
+    ensures { result ≡ extract_cell x (planned cells.now p.now) p.now.s }
+{
+    match x {
+        Operand::Absent => Err(Missing::NoAddress),
+        Operand::Imm(w) => Ok(memory::word_cell(w)),
+        Operand::Register(r) => Ok(registers::get_reg(&p.s, r)),
+        Operand::Dir(_) | Operand::Ind(_) | Operand::Idx(_, _) => {
+            cell_there(cells, p.write, resolve(&p.s, x))
+        }
     }
 }
 
-// The same after the write that waits: v at `at`.
-fn there_over(cells: &[i64], at: u32, v: Cell, n: Address) -> Given
-    ensures { result ≡ cell_there n (overlay at v cells.now) }
+// The operand's cell.
+#[tactic(auto, unfolding(registers::specs::Meaning::res_of, definition::specs::Exec::or_given))]
+pub fn cell_of(cells: &[i64], p: &mut Plan, x: Operand) -> Result<Cell, Error>
+    ensures value { res_of result (core_of cells.now p.new) ≡ cell_of x (core_of cells.now p.old) }
+    ensures write { p.new.write ≡ p.old.write }
 {
-    match n {
-        Address::At(n) => read_there(memory::read_over(cells, at, v, n)),
-        Address::NotAddress => Given::NoAddress,
+    let given = extract_cell(cells, p, x);
+    count_base(&mut p.s, x);
+    Ok(given?)
+}
+
+// Cell::extract_word: the cell's word, or the error. An empty cell's word is 0, and is counted.
+#[tactic(auto, using(word::proofs::Laws::back), unfolding(registers::specs::Meaning::res_of, definition::specs::Exec::or_word, definition::specs::Registers::counted))]
+pub fn take_word(s: &mut Registers, v: Cell, error: Error) -> Result<i64, Error>
+    ensures { (l : List ℤ) → res_of result (core l s.new) ≡ take_word v error (core l s.old) }
+{
+    let w = memory::extract_word(v);
+    registers::count(s, w);
+    match w {
+        Word::Is(n) => Ok(n),
+        Word::Empty => Ok(0),
+        Word::NotWord => Err(error),
     }
 }
 
-// The operand's cell. A value is apart: it names no address, and the tests stay few where they are compiled in line (docs/SPEED.md).
-pub fn cell_of(cells: &[i64], s: Registers, x: Arg) -> CellTaken
-    ensures { result ≡ took_cell (cell_of (arg_of x) (core cells.now s)) }
+// Cell::extract_address
+#[tactic(auto, using(word::proofs::Laws::back), unfolding(registers::specs::Meaning::res_of, definition::specs::Exec::or_address, definition::specs::Exec::and_then))]
+pub fn take_address(s: &mut Registers, v: Cell, error: Error) -> Result<u32, Error>
+    ensures { (l : List ℤ) → res_of result (core l s.new) ≡ take_address v error (core l s.old) }
 {
-    if is_value(x.mode) {
-        return taken::or_given(s, Given::Gives(value(s, x)));
-    }
-    let p = resolve(s, x);
-    let base = p.base;
-    let at = p.at;
-    taken::or_given(registers::counted(s, base), cell_there(cells, at))
+    let w = take_word(s, v, error)?;
+    word::to_address(w).ok_or(error)
 }
 
 // The operand's word.
-pub fn word_of(cells: &[i64], s: Registers, x: Arg) -> WordTaken
-    ensures { result ≡ took_word (word_of (arg_of x) (core cells.now s)) }
+#[tactic(auto, unfolding(registers::specs::Meaning::res_of, definition::specs::Exec::and_then))]
+pub fn word_of(cells: &[i64], p: &mut Plan, x: Operand) -> Result<i64, Error>
+    ensures value { res_of result (core_of cells.now p.new) ≡ word_of x (core_of cells.now p.old) }
+    ensures write { p.new.write ≡ p.old.write }
 {
-    taken::word_in(cell_of(cells, s, x), Error::Extract)
-}
-
-// The word of a register.
-pub fn register_word(s: Registers, r: u32) -> WordTaken
-    ensures { (l : List ℤ) → result ≡ took_word (register_word (reg_at r) (core l s)) }
-{
-    taken::or_word(
-        s,
-        memory::extract_word(registers::get_reg(s, r)),
-        Error::Extract,
-    )
+    let v = cell_of(cells, p, x)?;
+    take_word(&mut p.s, v, Error::Extract)
 }
 
 // The operand's word, a jump's target.
-pub fn target_of(cells: &[i64], s: Registers, x: Arg) -> AddressTaken
-    ensures { result ≡ took_address (target_of (arg_of x) (core cells.now s)) }
+#[tactic(auto, unfolding(registers::specs::Meaning::res_of, definition::specs::Exec::and_then))]
+pub fn target_of(cells: &[i64], p: &mut Plan, x: Operand) -> Result<u32, Error>
+    ensures value { res_of result (core_of cells.now p.new) ≡ target_of x (core_of cells.now p.old) }
+    ensures write { p.new.write ≡ p.old.write }
 {
-    taken::address_in(cell_of(cells, s, x), Error::Extract)
+    let v = cell_of(cells, p, x)?;
+    take_address(&mut p.s, v, Error::Extract)
 }
 
-// The same for call, which has pushed before it reads: v at `at`.
-pub fn target_over(cells: &[i64], at: u32, v: Cell, s: Registers, x: Arg) -> AddressTaken
-    ensures { result ≡ took_address (target_of (arg_of x) (core (overlay at v cells.now) s)) }
+// The word of a register.
+#[tactic(auto, unfolding(registers::specs::Meaning::res_of))]
+pub fn register_word(s: &mut Registers, r: Reg) -> Result<i64, Error>
+    ensures { (l : List ℤ) → res_of result (core l s.new) ≡ register_word r (core l s.old) }
 {
-    if is_value(x.mode) {
-        return taken::address_in(
-            taken::or_given(s, Given::Gives(value(s, x))),
-            Error::Extract,
-        );
-    }
-    let p = resolve(s, x);
-    let base = p.base;
-    let n = p.at;
-    let there = there_over(cells, at, v, n);
-    taken::address_in(
-        taken::or_given(registers::counted(s, base), there),
-        Error::Extract,
-    )
+    let v = registers::get_reg(s, r);
+    take_word(s, v, Error::Extract)
 }
 
 // The address that the operand names.
-pub fn address_of(s: Registers, x: Arg) -> AddressTaken
-    ensures { (l : List ℤ) → result ≡ took_address (place_of (arg_of x) (core l s)) }
+#[tactic(auto, unfolding(registers::specs::Meaning::res_of, definition::specs::Exec::or_address))]
+pub fn place_of(s: &mut Registers, x: Operand) -> Result<u32, Error>
+    ensures { (l : List ℤ) → res_of result (core l s.new) ≡ place_of x (core l s.old) }
 {
-    let p = resolve(s, x);
-    let base = p.base;
-    let at = p.at;
-    taken::or_address(registers::counted(s, base), at, Error::CellError)
+    let n = resolve(s, x);
+    count_base(s, x);
+    n.ok_or(Error::CellError)
 }
 
-// A cell read at an address of the machine's own: sp, or where pc and sr are saved.
-pub fn read(cells: &[i64], s: Registers, n: u32) -> CellTaken
-    ensures { result ≡ took_cell (read n InvalidMemoryAccess (core cells.now s)) }
+// A cell read at an address of the machine's own: pc, sp, or where pc and sr are saved.
+#[tactic(auto, unfolding(registers::specs::Meaning::res_of, definition::specs::Exec::or_cell))]
+pub fn read(cells: &[i64], p: &Plan, n: u32) -> Result<Cell, Error>
+    ensures { res_of result (core_of cells.now p.now) ≡ read n InvalidMemoryAccess (core_of cells.now p.now) }
 {
-    taken::or_cell(s, memory::get(cells, n), Error::InvalidMemoryAccess)
+    memory::read_over(cells, p.write, n).ok_or(Error::InvalidMemoryAccess)
 }

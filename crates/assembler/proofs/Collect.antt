@@ -1,23 +1,26 @@
 -- The table of labels, line by line. Assumes nothing.
-use mathlib.Core.Path.{◌≡◌, refl, sym, ap, ◌∙◌, subst}
-use mathlib.Core.Bool.{Bool, true, false, cond, ◌&&◌}
-use mathlib.Core.List.{List}
+use mathlib.Core.Path.{◌≡◌, refl, sym, ap, ◌∙◌, fun_ext}
+use mathlib.Core.Bool.{cond}
+use mathlib.Core.List.{List, [], ◌∷◌, ◌++◌}
 use mathlib.Core.Option.{Option, some, none}
-use Prim.Native.Nat.{ℕ, zero, suc, ◌+◌, ◌*◌, ◌≤◌, ◌<◌}
+use Prim.Native.Nat.{ℕ, zero, suc, ◌+◌, ◌*◌, ◌%◌, ◌≤◌, ◌<◌}
 use native.Mathlib.Omega.{arith}
-use native.Mathlib.Numerals.{add-one}
-use lib.ListN.{length, drop, get_or, set, replicate, length-set}
+use lib.ListN.{length, get_or, set}
 use lib.Seq.{get_or-set_same, get_or-set_other}
-use lib.Dec.{eqb, ltb}
-use borrow.Author.Tests.{ltb-true, eqb-true, eqb-false}
-use Rattle.expression.specs.Reader.{past, same, is_space}
-use Rattle.expression.specs.Code.{Place}
-use Rattle.expression.specs.Table.{name_at, is_labelled, next_line, setting, held, beyond, beyond_line, name_of, line_of, hash_from, guess, is_guessed, among, kept, or_else, behind, lookup, Usable}
-use Rattle.expression.proofs.Spans.{by_bool, clash}
-use Rattle.expression.proofs.Sound.{both}
+use lib.Dec.{eqb}
+use borrow.Author.Tests.{eqb-true, eqb-false}
+use Rattle.std.specs.Prelude.{Some, None, slice_get}
+use Rattle.std.specs.Prelude as O
+use Rattle.expression.specs.declared.labels.Entry.{Entry}
+use Rattle.expression.specs.declared.labels.Lines.{Lines}
+use Rattle.expression.specs.declared.labels.Labels.{Labels}
+use Rattle.expression.specs.Reader.{gives, refused, same}
+use Rattle.expression.specs.Table.{label_at, next_line, setting, hash_from}
+use Rattle.expression.specs.Labels.{line_of, line_at, or_else, among, held, guess, guessed, kept, lookup, IsEmpty, Pushed, Inserted, Left}
+use Rattle.expression.proofs.Spans.{by_bool}
+use Rattle.expression.proofs.Names.{sets-label, sets-nothing, setting-first, setting-rest}
 use Rattle.assembly.proofs.Names.{same_true}
-use Rattle.expression.proofs.Lookup.{sets-is, sets-not, setting-here, setting-next, setting-out, behind-no, behind-in, kept-none, kept-guess}
-use Rattle.assembler.specs.Meaning.{Collected, Taken, is_some}
+use Rattle.assembler.specs.Meaning.{Collected}
 
 or-or : (x y z : Option ℕ) → or_else (or_else x y) z ≡ or_else x (or_else y z)
 unfolding or_else
@@ -29,224 +32,118 @@ unfolding or_else
 or-none none = refl
 or-none (some k) = refl
 
-pub collected-none : (s : List ℕ) → Collected s (replicate 1539 0) 0 0
-unfolding among or_else
-collected-none s =
-    record { size = refl; few = omega arith; lines = omega arith; on = omega arith; whole = refl; start = refl; guessed = λ n. sym (kept-none s (replicate 1539 0) n (omega arith)); found = λ n. rw (← kept-none s (replicate 1539 0) n (omega arith)) }
+hash-below : (n : List ℕ) (h : ℕ) → h < 1024 → hash_from h n < 1024
+unfolding hash_from
+hash-below [] h l = l
+hash-below (b ∷ n) h l = hash-below n ((h * 31 + b) % 1024) (omega arith)
+
+none-or : (x : Option ℕ) → x ≡ or_else none x
+unfolding or_else
+none-or x = refl
+
+among-last : (es : List Entry) (e : Entry) (m : List ℕ) → among (es ++ e ∷ []) m ≡ or_else (among es m) (line_of e m)
+unfolding among
+among-last [] e m = or-none (line_of e m) ∙ none-or (line_of e m)
+among-last (d ∷ es) e m = ap (or_else (line_of d m)) (among-last es e m) ∙ sym (or-or (line_of d m) (among es m) (line_of e m))
+
+slot-last : (es : List Entry) (e : Entry) → slice_get (es ++ e ∷ []) (length es) ≡ Some e
+slot-last [] e = refl
+slot-last (d ∷ es) e = slot-last es e
+
+slot_other : (es : List Entry) (e : Entry) (g : ℕ) (m : List ℕ) → line_of e m ≡ none → line_at (slice_get (es ++ e ∷ []) g) m ≡ line_at (slice_get es g) m
+slot_other [] e zero m h = h
+slot_other [] e (suc g) m h = refl
+slot_other (d ∷ es) e zero m h = refl
+slot_other (d ∷ es) e (suc g) m h = slot_other es e g m h
 
 -- ---- a label more
 
-module _ (s T : List ℕ) (n name k h : ℕ) (size : length T ≡ 1539) (l : n < 256) (i : h < 1024) where
-  abbrev added : List ℕ
-  added = set (set (set (set T (3 + 2 * n) name) (4 + 2 * n) k) (515 + h) n) 0 (n + 1)
-
-  added-size : length added ≡ 1539
-  added-size = simp length-set size
-
-  added-count : held added ≡ n + 1
-  added-count = get_or-set_same (set (set (set T (3 + 2 * n) name) (4 + 2 * n) k) (515 + h) n) 0 (n + 1) 0 (simp length-set (omega arith))
-
-  after-count : (j : ℕ) → 0 < j → get_or added j 0 ≡ get_or (set (set (set T (3 + 2 * n) name) (4 + 2 * n) k) (515 + h) n) j 0
-  after-count j z = get_or-set_other (set (set (set T (3 + 2 * n) name) (4 + 2 * n) k) (515 + h) n) 0 j (n + 1) 0 (λ e. absurd (omega arith))
-
-  after-guess : (j : ℕ) → (j ≡ 515 + h → ⊥) → get_or (set (set (set T (3 + 2 * n) name) (4 + 2 * n) k) (515 + h) n) j 0 ≡ get_or (set (set T (3 + 2 * n) name) (4 + 2 * n) k) j 0
-  after-guess j z = get_or-set_other (set (set T (3 + 2 * n) name) (4 + 2 * n) k) (515 + h) j n 0 z
-
-  added-other : (j : ℕ) → 0 < j → (j ≡ 3 + 2 * n → ⊥) → (j ≡ 4 + 2 * n → ⊥) → (j ≡ 515 + h → ⊥) → get_or added j 0 ≡ get_or T j 0
-  added-other j z a b c =
-      after-count j z ∙ (after-guess j c ∙ (get_or-set_other (set T (3 + 2 * n) name) (4 + 2 * n) j k 0 b ∙ get_or-set_other T (3 + 2 * n) j name 0 a))
-
-  added-name : name_of added n ≡ name
-  added-name =
-      after-count (3 + 2 * n) (omega arith) ∙ (after-guess (3 + 2 * n) (λ e. absurd (omega arith)) ∙ (get_or-set_other (set T (3 + 2 * n) name) (4 + 2 * n) (3 + 2 * n) k 0 (λ e. absurd (omega arith)) ∙ get_or-set_same T (3 + 2 * n) name 0 (omega arith)))
-
-  added-line : line_of added n ≡ k
-  added-line =
-      after-count (4 + 2 * n) (omega arith) ∙ (after-guess (4 + 2 * n) (λ e. absurd (omega arith)) ∙ get_or-set_same (set T (3 + 2 * n) name) (4 + 2 * n) k 0 (simp length-set (omega arith)))
-
-  added-guess : get_or added (515 + h) 0 ≡ n
-  added-guess = after-count (515 + h) (omega arith) ∙ get_or-set_same (set (set T (3 + 2 * n) name) (4 + 2 * n) k) (515 + h) n 0 (simp length-set (omega arith))
-
+module _ (S T : Labels) (name : List ℕ) (line : ℕ) (q : Pushed S T name line) (known : (m : List ℕ) → kept S m ≡ among (held S) m) (new : kept S name ≡ none) where
   abbrev last : List ℕ → Option ℕ
-  last m = cond (same (name_at s name) m) (some k) none
+  last m = cond (same name m) (some line) none
 
-  earlier-name : (j : ℕ) → j < n → name_of added j ≡ name_of T j
-  earlier-name j z = added-other (3 + 2 * j) (omega arith) (λ q. absurd (omega arith)) (λ q. absurd (omega arith)) (λ q. absurd (omega arith))
+  entry-line : (m : List ℕ) → line_of q.entry m ≡ last m
+  entry-line m = rw (q.named, q.at_line)
 
-  earlier-line : (j : ℕ) → j < n → line_of added j ≡ line_of T j
-  earlier-line j z = added-other (4 + 2 * j) (omega arith) (λ q. absurd (omega arith)) (λ q. absurd (omega arith)) (λ q. absurd (omega arith))
+  among-added : (m : List ℕ) → among (held T) m ≡ or_else (among (held S) m) (last m)
+  among-added m = ap (λ (es : List Entry). among es m) q.last ∙ (among-last (held S) q.entry m ∙ ap (or_else (among (held S) m)) (entry-line m))
 
-  among-added : (j b : ℕ) (m : List ℕ) → b + j ≡ n → among s added (suc j) b m ≡ or_else (among s T j b m) (last m)
-  unfolding among or_else
-  among-added zero b m e =
-      let z : b ≡ n = omega arith in
-      rw (z, added-name, added-line)
-  among-added (suc j) b m e =
-      by_bool (same (name_at s (name_of T b)) m)
-      (λ f. rw (earlier-name b (omega arith), earlier-line b (omega arith), f))
-      (λ f. rw (earlier-name b (omega arith), f) (among-added j (suc b) m (omega arith)))
+  guess-same : (m : List ℕ) → hash_from 0 m ≡ hash_from 0 name → guess T m ≡ S.count
+  guess-same m e =
+      ap (λ (l : List ℕ). get_or l (hash_from 0 m) 0) q.guesses
+      ∙ (ap (λ (h : ℕ). get_or (set S.guesses (hash_from 0 name) S.count) h 0) e
+      ∙ get_or-set_same S.guesses (hash_from 0 name) S.count 0 (let h = hash-below name 0 (omega arith) in let n = q.numbers in omega arith))
 
-  all-added : held T ≡ n → (m : List ℕ) → among s added (held added) 0 m ≡ or_else (among s T (held T) 0 m) (last m)
-  all-added e m =
-      ap (λ (j : ℕ). among s added j 0 m) (added-count ∙ add-one n) ∙ (among-added n 0 m (omega arith) ∙ ap (λ (j : ℕ). or_else (among s T j 0 m) (last m)) (sym e))
+  guess_other : (m : List ℕ) → (hash_from 0 m ≡ hash_from 0 name → ⊥) → guess T m ≡ guess S m
+  guess_other m e =
+      ap (λ (l : List ℕ). get_or l (hash_from 0 m) 0) q.guesses ∙ get_or-set_other S.guesses (hash_from 0 name) (hash_from 0 m) S.count 0 e
 
-  -- the guess changes nothing
-  module _ (count : held T ≡ n) (number : h ≡ hash_from 0 (name_at s name)) (new : among s T (held T) 0 (name_at s name) ≡ none) (before : (m : List ℕ) → kept s T m ≡ among s T (held T) 0 m) (m : List ℕ) where
-    guess-new : (g : ℕ) → g ≡ n → same (name_at s (name_of added g)) m ≡ true → some (line_of added g) ≡ among s added (held added) 0 m
-    unfolding or_else
-    guess-new g e f =
-        let q : same (name_at s name) m ≡ true = ap (λ (x : ℕ). same (name_at s x) m) (sym (ap (name_of added) e ∙ added-name)) ∙ f in
-        let z : among s T (held T) 0 m ≡ none = ap (among s T (held T) 0) (sym (same_true (name_at s name) m q)) ∙ new in
-        ap some (ap (line_of added) e ∙ added-line) ∙ sym (all-added count m ∙ rw (z, q))
+  guessed-same : (m : List ℕ) → hash_from 0 m ≡ hash_from 0 name → guessed T m ≡ last m
+  guessed-same m e =
+      ap (λ (j : ℕ). line_at (slice_get (held T) j) m) (guess-same m e ∙ sym q.place)
+      ∙ (ap (λ (es : List Entry). line_at (slice_get es (length (held S))) m) q.last
+      ∙ (ap (λ (o : O.Option Entry). line_at o m) (slot-last (held S) q.entry) ∙ entry-line m))
 
-    guess-old : (g : ℕ) → g ≡ guess added m → g < n → same (name_at s (name_of added g)) m ≡ true → some (line_of added g) ≡ among s added (held added) 0 m
-    unfolding or_else
-    guess-old g e z f =
-        let d : (515 + hash_from 0 m ≡ 515 + h → ⊥) = λ q. absurd (let w : get_or added (515 + hash_from 0 m) 0 ≡ n = ap (λ (x : ℕ). get_or added x 0) q ∙ added-guess in omega arith) in
-        let o : g ≡ guess T m = e ∙ added-other (515 + hash_from 0 m) (omega arith) (λ q. absurd (omega arith)) (λ q. absurd (omega arith)) d in
-        let p : same (name_at s (name_of T (guess T m))) m ≡ true = ap (λ (x : ℕ). same (name_at s x) m) (sym (earlier-name g z ∙ ap (name_of T) o)) ∙ f in
-        let a : among s T (held T) 0 m ≡ some (line_of T (guess T m)) = sym (before m) ∙ sym (kept-guess s T m (omega arith) p) in
-        ap some (earlier-line g z ∙ ap (line_of T) o) ∙ sym (all-added count m ∙ rw a)
+  pub guess-added : (m : List ℕ) → kept T m ≡ among (held T) m
+  unfolding kept or_else
+  guess-added m =
+      by_bool (same name m)
+      (λ f. let z : among (held S) m ≡ none = sym (known m) ∙ (ap (kept S) (sym (same_true name m f)) ∙ new) in
+      rw (guessed-same m (ap (hash_from 0) (sym (same_true name m f))), among-added m, z, f))
+      (λ f. let n : line_of q.entry m ≡ none = entry-line m ∙ rw f refl in
+      let a : among (held T) m ≡ among (held S) m = among-added m ∙ rw f (or-none (among (held S) m)) in
+      by_bool (eqb (hash_from 0 m) (hash_from 0 name))
+      (λ h. rw (guessed-same m (eqb-true (hash_from 0 m) (hash_from 0 name) h), f))
+      (λ h. let g : guessed T m ≡ guessed S m = ap (λ (j : ℕ). line_at (slice_get (held T) j) m) (guess_other m (eqb-false (hash_from 0 m) (hash_from 0 name) h)) ∙ (ap (λ (es : List Entry). line_at (slice_get es (guess S m)) m) q.last ∙ slot_other (held S) q.entry (guess S m) m n) in
+      rw (g, a) (known m)))
 
-    guess-added : kept s added m ≡ among s added (held added) 0 m
-    unfolding kept is_guessed
-    guess-added =
-        by_bool (ltb (guess added m) (held added) && same (name_at s (name_of added (guess added m))) m)
-        (λ b. let p = both (ltb (guess added m) (held added)) (same (name_at s (name_of added (guess added m))) m) b in
-        let w = ltb-true (guess added m) (held added) p.0 in
-        let c = added-count in
-        rw b (by_bool (eqb (guess added m) n)
-        (λ e. guess-new (guess added m) (eqb-true (guess added m) n e) p.1)
-        (λ e. guess-old (guess added m) refl (let z = eqb-false (guess added m) n e in omega arith) p.1)))
-        (λ b. rw b)
+  pub kept-added : (m : List ℕ) → kept T m ≡ or_else (kept S m) (last m)
+  kept-added m = guess-added m ∙ (among-added m ∙ ap (λ (x : Option ℕ). or_else x (last m)) (sym (known m)))
 
--- the line that sets it, found at once or in the lines after it
-line-again : (s : List ℕ) (at k name to : ℕ) → at < length s → is_labelled (drop at s) ≡ true → Place s at name (past is_space (drop at s)) → drop to s ≡ next_line (drop at s) → (m : List ℕ) → or_else (cond (same (name_at s name) m) (some k) none) (setting (drop to s) (suc k) m) ≡ setting (drop at s) k m
-unfolding or_else
-line-again s at k name to h l q e m =
-    let b = sets-is s m at name l q in
-    by_bool (same (name_at s name) m)
-    (λ f. rw f (setting-here s at h k m (sym b ∙ f)))
-    (λ f. rw (f, ← add-one) (setting-next s at h k to m (sym b ∙ f) e))
+-- ---- a line more
 
--- ---- the rest left to a search
+pub collected-none : (s : List ℕ) (T : Labels) (t : List ℕ) (k : ℕ) → IsEmpty T → t ≡ s → k ≡ 0 → Collected s T t k
+unfolding kept among or_else
+collected-none s T t k e f g =
+    record { guessed = λ n. rw e.none_held refl; found = λ n. rw (e.none_held, f, g) refl }
 
-module _ (s T : List ℕ) (at k : ℕ) (size : length T ≡ 1539) where
-  abbrev marked : List ℕ
-  marked = set (set T 1 at) 2 k
-
-  marked-place : beyond marked ≡ at
-  marked-place = get_or-set_other (set T 1 at) 2 1 k 0 (λ e. absurd (omega arith)) ∙ get_or-set_same T 1 at 0 (omega arith)
-
-  marked-line : beyond_line marked ≡ k
-  marked-line = get_or-set_same (set T 1 at) 2 k 0 (simp length-set (omega arith))
-
-  marked_other : (i : ℕ) → (i ≡ 1 → ⊥) → (i ≡ 2 → ⊥) → get_or marked i 0 ≡ get_or T i 0
-  marked_other i a b = get_or-set_other (set T 1 at) 2 i k 0 b ∙ get_or-set_other T 1 i at 0 a
-
-  left-usable : held T ≤ 256 → k ≤ at → Usable marked
-  left-usable h o =
-      let a = marked_other 0 (λ e. absurd (omega arith)) (λ e. absurd (omega arith)) in
-      let b = marked-place in
-      let d = marked-line in
-      record { few = omega arith; ordered = omega arith }
-
-  among-marked : (j i : ℕ) (m : List ℕ) → among s marked j i m ≡ among s T j i m
-  unfolding among
-  among-marked zero i m = refl
-  among-marked (suc j) i m =
-      rw (marked_other (3 + 2 * i) (λ e. absurd (omega arith)) (λ e. absurd (omega arith)), marked_other (4 + 2 * i) (λ e. absurd (omega arith)) (λ e. absurd (omega arith)), among-marked j (suc i) m)
-
-  kept-marked : (m : List ℕ) → kept s marked m ≡ kept s T m
-  unfolding kept is_guessed
-  kept-marked m =
-      rw (marked_other (515 + hash_from 0 m) (λ e. absurd (omega arith)) (λ e. absurd (omega arith)), marked_other 0 (λ e. absurd (omega arith)) (λ e. absurd (omega arith)), marked_other (3 + 2 * guess T m) (λ e. absurd (omega arith)) (λ e. absurd (omega arith)), marked_other (4 + 2 * guess T m) (λ e. absurd (omega arith)) (λ e. absurd (omega arith)), among-marked (held T) 0 m)
-
-  behind-marked : (at ≡ 0 → ⊥) → (m : List ℕ) → behind s marked m ≡ setting (drop at s) k m
-  behind-marked z m =
-      sym (behind-in s marked m (λ e. z (sym marked-place ∙ e))) ∙ rw (marked-place, marked-line)
-
-  left-found : (at ≡ 0 → ⊥) → (m : List ℕ) → lookup s marked m ≡ or_else (kept s T m) (setting (drop at s) k m)
-  unfolding lookup
-  left-found z m = rw (kept-marked m, behind-marked z m)
-
-module _ (s T : List ℕ) (at k : ℕ) (inside : at < length s) (c : Collected s T at k) where
-  pub skip-line : is_labelled (drop at s) ≡ false → Taken s T at k false
-  skip-line l to o e =
-      let a = c.lines in let b = c.on in
+module _ (s : List ℕ) (T : Labels) (t : List ℕ) (k : ℕ) (some-text : 1 ≤ length t) (c : Collected s T t k) where
+  pub line-plain : refused ≡ label_at t → Collected s T (next_line t) (k + 1)
+  line-plain e =
       record {
-        size = c.size;
-        few = c.few;
-        lines = omega arith;
-        on = omega arith;
-        whole = c.whole;
-        start = c.start;
         guessed = c.guessed;
-        found = λ m. ap (or_else (kept s T m)) (ap (λ (j : ℕ). setting (drop to s) j m) (sym (add-one k)) ∙ setting-next s at inside k to m (sym (sets-not s m at l)) e) ∙ c.found m;
+        found = λ m. ap (or_else (kept T m)) (setting-rest t k m some-text (sets-nothing t m e)) ∙ c.found m;
       }
 
-  module _ (name : ℕ) (l : is_labelled (drop at s) ≡ true) (q : Place s at name (past is_space (drop at s))) where
-    -- a label that the table has
-    again-found : (j : ℕ) → kept s T (name_at s name) ≡ some j → (to : ℕ) → drop to s ≡ next_line (drop at s) → (m : List ℕ) → or_else (kept s T m) (setting (drop to s) (suc k) m) ≡ or_else (kept s T m) (setting (drop at s) k m)
+  module _ (name u : List ℕ) (e : gives name u ≡ label_at t) where
+    -- the line that sets it, found at once or in the lines after it
+    line-again : (m : List ℕ) → or_else (cond (same name m) (some k) none) (setting (next_line t) (k + 1) m) ≡ setting t k m
     unfolding or_else
-    again-found j z to e m =
-        let b = sets-is s m at name l q in
-        by_bool (same (name_at s name) m)
-        (λ f. let w : kept s T m ≡ some j = ap (kept s T) (sym (same_true (name_at s name) m f)) ∙ z in rw w)
-        (λ f. ap (or_else (kept s T m)) (ap (λ (x : ℕ). setting (drop to s) x m) (sym (add-one k)) ∙ setting-next s at inside k to m (sym b ∙ f) e))
+    line-again m =
+        by_bool (same name m)
+        (λ f. rw f (setting-first t k m some-text (sets-label t name u m e ∙ f)))
+        (λ f. rw f (setting-rest t k m some-text (sets-label t name u m e ∙ f)))
 
-    again_by : (o : Option ℕ) → kept s T (name_at s name) ≡ o → is_some o ≡ true → Taken s T at k false
-    unfolding is_some
-    again_by none z h to o e = clash h refl
-    again_by (some j) z h to o e =
-        let a = c.lines in let b = c.on in
+    again-found : (j : ℕ) → kept T name ≡ some j → (m : List ℕ) → or_else (kept T m) (setting (next_line t) (k + 1) m) ≡ or_else (kept T m) (setting t k m)
+    unfolding or_else
+    again-found j z m =
+        by_bool (same name m)
+        (λ f. let w : kept T m ≡ some j = ap (kept T) (sym (same_true name m f)) ∙ z in rw w)
+        (λ f. ap (or_else (kept T m)) (setting-rest t k m some-text (sets-label t name u m e ∙ f)))
+
+    line-by : (o : Option ℕ) (T' : Labels) → kept T name ≡ o → Inserted o T T' name k → Collected s T' (next_line t) (k + 1)
+    line-by (some j) T' z q =
+        rw q (record { guessed = c.guessed; found = λ m. again-found j z m ∙ c.found m })
+    line-by none T' z q =
         record {
-          size = c.size;
-          few = c.few;
-          lines = omega arith;
-          on = omega arith;
-          whole = c.whole;
-          start = c.start;
-          guessed = c.guessed;
-          found = λ m. again-found j z to e m ∙ c.found m;
+          guessed = guess-added T T' name k q c.guessed z;
+          found = λ m. ap (λ (x : Option ℕ). or_else x (setting (next_line t) (k + 1) m)) (kept-added T T' name k q c.guessed z m) ∙ (or-or (kept T m) (cond (same name m) (some k) none) (setting (next_line t) (k + 1) m) ∙ (ap (or_else (kept T m)) (line-again m) ∙ c.found m));
         }
 
-    pub again-line : (o : Option ℕ) (r : Bool) → o ≡ kept s T (name_at s name) → r ≡ is_some o → r ≡ true → Taken s T at k false
-    again-line o r e f h = again_by o (sym e) (sym f ∙ h)
+    pub line-labelled : (T' : Labels) → Inserted (kept T name) T T' name k → Collected s T' (next_line t) (k + 1)
+    line-labelled T' q = line-by (kept T name) T' refl q
 
-    none-by : (o : Option ℕ) → is_some o ≡ false → o ≡ none
-    unfolding is_some
-    none-by none h = refl
-    none-by (some j) h = clash refl h
-
-    found-added : (n h : ℕ) → n ≡ get_or T 0 0 → n < 256 → h < 1024 → h ≡ hash_from 0 (name_at s name) → kept s T (name_at s name) ≡ none → (to : ℕ) → drop to s ≡ next_line (drop at s) → (m : List ℕ) → or_else (kept s (set (set (set (set T (3 + 2 * n) name) (4 + 2 * n) k) (515 + h) n) 0 (n + 1)) m) (setting (drop to s) (suc k) m) ≡ setting s 0 m
-    found-added n h z b d g w to e m =
-        ap (λ (x : Option ℕ). or_else x (setting (drop to s) (suc k) m)) (guess-added s T n name k h c.size b d (sym z) g (sym (c.guessed (name_at s name)) ∙ w) c.guessed m ∙ (all-added s T n name k h c.size b d (sym z) m ∙ ap (λ (x : Option ℕ). or_else x (cond (same (name_at s name) m) (some k) none)) (sym (c.guessed m)))) ∙ (or-or (kept s T m) (cond (same (name_at s name) m) (some k) none) (setting (drop to s) (suc k) m) ∙ (ap (or_else (kept s T m)) (line-again s at k name to inside l q e m) ∙ c.found m))
-
-    pub add-line : (n h : ℕ) (T' : List ℕ) (o : Option ℕ) (r : Bool) → o ≡ kept s T (name_at s name) → r ≡ is_some o → r ≡ false → n ≡ get_or T 0 0 → n < 256 → h < 1024 → h ≡ hash_from 0 (name_at s name) → T' ≡ set (set (set (set T (3 + 2 * n) name) (4 + 2 * n) k) (515 + h) n) 0 (n + 1) → Taken s T' at k false
-    add-line n h T' o r x y v z b d g f to on e =
-        let a = c.lines in let p = c.on in
-        let w : kept s T (name_at s name) ≡ none = sym x ∙ none-by o (sym y ∙ v) in
-        let u = added-count s T n name k h c.size b d in
-        subst (λ (t : List ℕ). Collected s t to (suc k)) (sym f)
-        (record {
-          size = added-size s T n name k h c.size b d;
-          few = omega arith;
-          lines = omega arith;
-          on = omega arith;
-          whole = added-other s T n name k h c.size b d 1 (omega arith) (λ q. absurd (omega arith)) (λ q. absurd (omega arith)) (λ q. absurd (omega arith)) ∙ c.whole;
-          start = added-other s T n name k h c.size b d 2 (omega arith) (λ q. absurd (omega arith)) (λ q. absurd (omega arith)) (λ q. absurd (omega arith)) ∙ c.start;
-          guessed = guess-added s T n name k h c.size b d (sym z) g (sym (c.guessed (name_at s name)) ∙ w) c.guessed;
-          found = λ m. found-added n h z b d g w to e m;
-        })
-
-    pub leave-line : (n : ℕ) (T' : List ℕ) → n ≡ get_or T 0 0 → 256 ≤ n → T' ≡ set (set T 1 at) 2 k → Taken s T' at k true
-    leave-line n T' z h f = let a = c.lines in let b = c.on in subst (λ (t : List ℕ). Usable t × ((m : List ℕ) → lookup s t m ≡ setting s 0 m)) (sym f) (left-usable s T at k c.size c.few c.on, λ m. left-found s T at k c.size (λ x. absurd (omega arith)) m ∙ c.found m)
-
-pub all-usable : (s T : List ℕ) (at k : ℕ) → Collected s T at k → Usable T
-all-usable s T at k c = let a = c.whole in let b = c.start in record { few = c.few; ordered = omega arith }
-
-pub all_found : (s T : List ℕ) (at k : ℕ) → length s ≤ at → Collected s T at k → (m : List ℕ) → lookup s T m ≡ setting s 0 m
-unfolding lookup
-all_found s T at k h c m =
-    ap (or_else (kept s T m)) (sym (behind-no s T m c.whole) ∙ setting-out s at k m h) ∙ c.found m
+-- the lines that are left are searched
+pub all-found : (s : List ℕ) (S T : Labels) (rest : Lines) → Collected s S rest.text.now rest.number → Left S T rest → lookup T ≡ setting s 0
+unfolding lookup kept
+all-found s S T rest c l = fun_ext (λ n. rw (l.entries, l.count, l.guesses, l.beyond) (c.found n))

@@ -1,5 +1,4 @@
 pub mod Rows
-pub mod Collect
-pub mod Cells
 pub mod Judged
+pub mod Collect
 pub mod Whole

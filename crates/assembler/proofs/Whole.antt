@@ -1,33 +1,35 @@
 -- From the passes to the call. Assumes nothing.
-use mathlib.Core.Path.{◌≡◌, refl, sym, ap, ◌∙◌, fun_ext}
-use mathlib.Core.Bool.{true, false}
+use mathlib.Core.Path.{◌≡◌, refl, sym, ap, ◌∙◌}
+use mathlib.Core.Bool.{Bool, true, false}
 use mathlib.Core.List.{List, [], ◌∷◌, map}
 use mathlib.Core.Option.{Option}
-use Prim.Native.Nat.{ℕ, zero, suc, ◌+◌, ◌/◌, ◌%◌, ◌≤◌}
+use Prim.Native.Nat.{ℕ, suc, ◌+◌, ◌/◌, ◌%◌, ◌≤◌}
 use native.Mathlib.Omega.{arith}
 use lib.IntN.{ℤ}
 use lib.ListN.{length}
-use borrow.Author.Tests.{eq-eqb, ne_eqb}
+use lib.Dec.{eqb}
+use Rattle.std.specs.Prelude.{Ok, Err}
+use Rattle.std.specs.Prelude as P
 use Rattle.definition.specs.declared.Cell.{Cell}
-use Rattle.definition.specs.declared.Done.{Done}
+use Rattle.definition.specs.declared.answers.Refusal.{Refusal}
+use Rattle.definition.specs.declared.answers.Refusal.TheVariants as R
+use Rattle.definition.specs.Answers.{number_of, place_of, checked, counted_of}
 use Rattle.definition.specs.Calls.{called}
 use Rattle.definition.specs.Memory.{put_cell}
 use Rattle.expression.specs.declared.Value.{Value}
 use Rattle.expression.specs.Grammar.{Expr}
-use Rattle.expression.specs.Reader.{Outcome, gives, refused, trees}
+use Rattle.expression.specs.Reader.{trees}
 use Rattle.expression.specs.Values.{values}
 use Rattle.expression.specs.Table.{setting}
-use Rattle.expression.proofs.Spans.{clash}
 use Rattle.assembly.specs.Grammar.{Line}
-use Rattle.assembly.specs.Reader.{row, Text, lines, broken, onto, rows_after, rows}
-use Rattle.assembly.specs.Assemble.{place_in, labels_of, line_values, line_cell, Assembled, refuses, judged, assembled, assemble, counted, put_cells, answered, assemble_call}
+use Rattle.assembly.specs.Reader.{Text, lines, broken, rows}
+use Rattle.assembly.specs.Assemble.{place_in, labels_of, line_values, line_cell, Assembled, refuses, judged, assembled, assemble, put_cells, answered, assemble_call}
 use Rattle.assembly.proofs.Sound.{rows-sound}
 use Rattle.assembly.proofs.Complete.{rows-complete}
 use Rattle.assembly.proofs.Placed.{labels-placed}
 use Rattle.assembly.proofs.Texts.{text_of, rows-fused}
-use Rattle.assembler.specs.declared.lines.Extent.{Extent}
-use Rattle.assembler.specs.Meaning.{shape, lines_of, is_whole, text_lines, judge}
-use Rattle.assembler.proofs.Judged.{done_of, judged-is, judged-refuses, judged-cells}
+use Rattle.assembler.specs.Meaning.{shape, lines_of, is_whole, text_lines, Verdict, judge}
+use Rattle.assembler.proofs.Judged.{said, judged-is}
 
 mapped : {A B : Type 0} (f : A → B) (l : List A) → length (map f l) ≡ length l
 mapped f [] = refl
@@ -39,32 +41,28 @@ labels-kept p (l ∷ ls) = ap (λ (x : List (Option (List ℕ))). l.label ∷ x)
 
 -- ---- the first pass
 
-broken-by : (p : List ℕ → Option ℕ) (t : Text Expr) (e : Extent) → e ≡ shape (text_of (line_values p) t) → e.whole ≡ false → assembled t ≡ refuses 13 (suc e.lines)
+no-error : {Q : Type 0} {e : Refusal} {n : ℕ} → Err e ≡ Ok n → Q
+no-error e = absurd (differ e)
+  where
+    differ : {e : Refusal} {n : ℕ} → Err e ≡ Ok n → ⊥
+    differ e = cc
+
+the-error : {d e : Refusal} → ◌≡◌ {A = P.Result ℕ Refusal} (Err d) (Err e) → d ≡ e
+the-error e = cc
+
+the-count : {m n : ℕ} → ◌≡◌ {A = P.Result ℕ Refusal} (Ok m) (Ok n) → m ≡ n
+the-count e = cc
+
+broken-by : (p : List ℕ → Option ℕ) (t : Text Expr) (e : Refusal) → Err e ≡ shape 0 (text_of (line_values p) t) → assembled t ≡ refuses (number_of e) (place_of e)
 unfolding shape text_of assembled
-broken-by p (lines ls) e h w = clash (ap (λ (x : Extent). x.whole) h) w
-broken-by p (broken k) e h w = ap (λ (j : ℕ). refuses 13 (suc j)) (ap (λ (x : Extent). x.lines) (sym h))
+broken-by p (lines ls) e h = no-error h
+broken-by p (broken k) e h =
+    let z : k ≡ 0 + k = omega arith in
+    ap (λ (j : ℕ). refuses 13 (suc j)) z ∙ ap (λ (d : Refusal). refuses (number_of d) (place_of d)) (sym (the-error h))
 
-pub first-broken : (p : List ℕ → Option ℕ) (room : ℕ) (s : List ℕ) (e : Extent) → e ≡ shape (rows (values p) 32 room s) → e.whole ≡ false → assemble room s ≡ refuses 13 (suc e.lines)
+pub first-broken : (p : List ℕ → Option ℕ) (room : ℕ) (s : List ℕ) (e : Refusal) → Err e ≡ shape 0 (rows (values p) 32 room s) → assemble room s ≡ refuses (number_of e) (place_of e)
 unfolding assemble
-first-broken p room s e h w = broken-by p (rows trees 32 room s) e (h ∙ ap shape (rows-fused p 32 room s)) w
-
--- no more lines than there is room for
-onto-room : (k : ℕ) (l : Line Value) (x : Text Value) → (shape x).lines ≤ k → (shape (onto l x)).lines ≤ suc k
-unfolding shape onto
-onto-room k l (lines ls) h = omega arith
-onto-room k l (broken j) h = omega arith
-
-after-room : (k : ℕ) (f : List ℕ → Text Value) (o : Outcome (Line Value)) → ((t : List ℕ) → (shape (f t)).lines ≤ k) → (shape (rows_after f o)).lines ≤ suc k
-unfolding rows_after shape
-after-room k f (gives l t) h = onto-room k l (f t) (h t)
-after-room k f refused h = omega arith
-
-pub shape-room : (p : List ℕ → Option ℕ) (k : ℕ) (t : List ℕ) → (shape (rows (values p) 32 k t)).lines ≤ k
-unfolding rows shape
-shape-room p zero [] = omega arith
-shape-room p zero (b ∷ t) = omega arith
-shape-room p (suc k) [] = omega arith
-shape-room p (suc k) (b ∷ t) = after-room k (rows (values p) 32 k) (row (values p) 32 (b ∷ t)) (shape-room p k)
+first-broken p room s e h = broken-by p (rows trees 32 room s) e (h ∙ ap (shape 0) (rows-fused p 32 room s))
 
 -- the lines of a text that is whole
 record Lines (s : List ℕ) (room n : ℕ) : Type 0 where
@@ -72,13 +70,13 @@ record Lines (s : List ℕ) (room n : ℕ) : Type 0 where
   read : rows trees 32 room s ≡ lines all
   count : n ≡ length all
 
-whole_by : (p : List ℕ → Option ℕ) (s : List ℕ) (room : ℕ) (t : Text Expr) (e : Extent) → rows trees 32 room s ≡ t → e ≡ shape (text_of (line_values p) t) → e.whole ≡ true → Lines s room e.lines
+whole_by : (p : List ℕ → Option ℕ) (s : List ℕ) (room : ℕ) (t : Text Expr) (n : ℕ) → rows trees 32 room s ≡ t → Ok n ≡ shape 0 (text_of (line_values p) t) → Lines s room n
 unfolding shape text_of
-whole_by p s room (lines ls) e r h w = record { all = ls; read = r; count = ap (λ (x : Extent). x.lines) h ∙ mapped (line_values p) ls }
-whole_by p s room (broken k) e r h w = clash w (ap (λ (x : Extent). x.whole) h)
+whole_by p s room (lines ls) n r h = record { all = ls; read = r; count = the-count h ∙ (let z : 0 + length (map (line_values p) ls) ≡ length (map (line_values p) ls) = omega arith in z ∙ mapped (line_values p) ls) }
+whole_by p s room (broken k) n r h = no-error (sym h)
 
-first-whole : (p : List ℕ → Option ℕ) (room : ℕ) (s : List ℕ) (e : Extent) → e ≡ shape (rows (values p) 32 room s) → e.whole ≡ true → Lines s room e.lines
-first-whole p room s e h w = whole_by p s room (rows trees 32 room s) e refl (h ∙ ap shape (rows-fused p 32 room s)) w
+first-whole : (p : List ℕ → Option ℕ) (room : ℕ) (s : List ℕ) (n : ℕ) → Ok n ≡ shape 0 (rows (values p) 32 room s) → Lines s room n
+first-whole p room s n h = whole_by p s room (rows trees 32 room s) n refl (h ∙ ap (shape 0) (rows-fused p 32 room s))
 
 -- ---- the passes after it
 
@@ -113,50 +111,67 @@ module _ (s : List ℕ) (room n : ℕ) (l : Lines s room n) where
       unfolding assemble assembled
       call = ap assembled l.read ∙ ap judged (ap (λ (f : List ℕ → Option ℕ). map (line_values f) l.all) (sym meant) ∙ sym texts)
 
-      judging : judge p 0 0 0 (text_lines p n s) ≡ done_of (judged (text_lines p n s))
-      judging = judged-is p (text_lines p n s) (meant ∙ ap (place_in 0) (sym (labels-kept p l.all) ∙ ap labels_of (sym texts)))
+      judging : said (judge p 0 0 (Ok tt) (text_lines p n s)) (map line_cell (text_lines p n s)) ≡ assemble room s
+      judging = judged-is p (text_lines p n s) (meant ∙ ap (place_in 0) (sym (labels-kept p l.all) ∙ ap labels_of (sym texts))) ∙ sym call
 
 -- ---- the call
 
-module _ (s : List ℕ) (image : List ℤ) where
-  pub call-ragged : (length image % 3 ≡ 0 → ⊥) → called (counted 9 0 0) image ≡ assemble_call s image
-  unfolding assemble_call
-  call-ragged h = rw (ne_eqb (length image % 3) 0 h)
+-- the test of the image
+pub ragged-by : (b : Bool) (e : Refusal) → Err e ≡ checked b R.Image → (b ≡ false) × (e ≡ R.Image)
+ragged-by true e h = absurd (differ h)
+  where
+    differ : {e : Refusal} → ◌≡◌ {A = Verdict} (Err e) (Ok tt) → ⊥
+    differ h = cc
+ragged-by false e h = (refl, the-same h)
+  where
+    the-same : {d e : Refusal} → ◌≡◌ {A = Verdict} (Err d) (Err e) → d ≡ e
+    the-same h = cc
 
-  module _ (h : length image % 3 ≡ 0) where
+pub even-by : (b : Bool) (u : Unit {0}) → Ok u ≡ checked b R.Image → b ≡ true
+even-by true u h = refl
+even-by false u h = absurd (differ h)
+  where
+    differ : {u : Unit {0}} {e : Refusal} → ◌≡◌ {A = Verdict} (Ok u) (Err e) → ⊥
+    differ h = cc
+
+module _ (s : List ℕ) (image : List ℤ) where
+  pub call-ragged : eqb (length image % 3) 0 ≡ false → called (counted_of (Err R.Image)) image ≡ assemble_call s image
+  unfolding assemble_call
+  call-ragged h = rw h
+
+  module _ (h : eqb (length image % 3) 0 ≡ true) where
     call-even : answered (assemble (length image / 3) s) image ≡ assemble_call s image
     unfolding assemble_call
-    call-even = rw (eq-eqb (length image % 3) 0 h)
+    call-even = rw h
 
-    module _ (q : List ℕ → Option ℕ) (e : Extent) (f : e ≡ shape (rows (values q) 32 (length image / 3) s)) where
-      pub call-broken : e.whole ≡ false → called (counted 13 (e.lines + 1) 0) image ≡ assemble_call s image
-      unfolding answered
-      call-broken w =
-          let z : e.lines + 1 ≡ suc e.lines = omega arith in
-          ap (λ (j : ℕ). called (counted 13 j 0) image) z ∙ (sym (ap (λ (a : Assembled). answered a image) (first-broken q (length image / 3) s e f w)) ∙ call-even)
+    call-refuses : (e : Refusal) → assemble (length image / 3) s ≡ refuses (number_of e) (place_of e) → called (counted_of (Err e)) image ≡ assemble_call s image
+    unfolding answered
+    call-refuses e z = sym (ap (λ (a : Assembled). answered a image) z) ∙ call-even
 
-      module _ (w : e.whole ≡ true) where
-        abbrev at : Lines s (length image / 3) e.lines
-        at = first-whole q (length image / 3) s e f w
+    module _ (q : List ℕ → Option ℕ) where
+      pub call-broken : (e : Refusal) → Err e ≡ shape 0 (rows (values q) 32 (length image / 3) s) → called (counted_of (Err e)) image ≡ assemble_call s image
+      call-broken e f = call-refuses e (first-broken q (length image / 3) s e f)
 
-        pub count_room : e.lines ≤ length image / 3
-        count_room = let a = sound s (length image / 3) e.lines at in let b = at.count in omega arith
+      module _ (n : ℕ) (f : Ok n ≡ shape 0 (rows (values q) 32 (length image / 3) s)) where
+        abbrev at : Lines s (length image / 3) n
+        at = first-whole q (length image / 3) s n f
+
+        pub count_room : n ≤ length image / 3
+        count_room = let a = sound s (length image / 3) n at in let b = at.count in omega arith
 
         module _ (p : List ℕ → Option ℕ) where
-          pub is-whole : is_whole (rows (values p) 32 e.lines s) ≡ true
-          is-whole = whole s (length image / 3) e.lines at p
+          pub is-whole : is_whole (rows (values p) 32 n s) ≡ true
+          is-whole = whole s (length image / 3) n at p
 
-          module _ (placed : p ≡ setting s 0) (d : Done) (j : d ≡ judge p 0 0 0 (text_lines p e.lines s)) where
-            pub call-refused : (d.refusal ≡ 0 → ⊥) → called (counted d.refusal d.place 0) image ≡ assemble_call s image
-            unfolding answered
-            call-refused z =
-                sym (ap (λ (a : Assembled). answered a image) (call s (length image / 3) e.lines at p placed ∙ judged-refuses (text_lines p e.lines s) d (j ∙ judging s (length image / 3) e.lines at p placed) z)) ∙ call-even
+          module _ (placed : p ≡ setting s 0) where
+            pub call-refused : (e : Refusal) → Err e ≡ judge p 0 0 (Ok tt) (text_lines p n s) → called (counted_of (Err e)) image ≡ assemble_call s image
+            call-refused e g = call-refuses e (sym (ap (λ (v : Verdict). said v (map line_cell (text_lines p n s))) g ∙ judging s (length image / 3) n at p placed))
 
-            pub call-cells : (image' : List ℤ) → d.refusal ≡ 0 → image' ≡ put_cells 0 (map line_cell (text_lines p e.lines s)) image → called (counted 0 0 e.lines) image' ≡ assemble_call s image
+            pub call-cells : (image' : List ℤ) (u : Unit {0}) → Ok u ≡ judge p 0 0 (Ok tt) (text_lines p n s) → image' ≡ put_cells 0 (map line_cell (text_lines p n s)) image → called (counted_of (Ok n)) image' ≡ assemble_call s image
             unfolding answered
-            call-cells image' z g =
-                let c = mapped line_cell (text_lines p e.lines s) ∙ count-is s (length image / 3) e.lines at p in
-                ap (λ (x : List ℤ). called (counted 0 0 e.lines) x) g ∙ (ap (λ (m : ℕ). called (counted 0 0 m) (put_cells 0 (map line_cell (text_lines p e.lines s)) image)) (sym c) ∙ (sym (ap (λ (a : Assembled). answered a image) (call s (length image / 3) e.lines at p placed ∙ judged-cells (text_lines p e.lines s) d (j ∙ judging s (length image / 3) e.lines at p placed) z)) ∙ call-even))
+            call-cells image' u g z =
+                let c = mapped line_cell (text_lines p n s) ∙ count-is s (length image / 3) n at p in
+                ap (λ (x : List ℤ). called (counted_of (Ok n)) x) z ∙ (ap (λ (m : ℕ). called (counted_of (Ok m)) (put_cells 0 (map line_cell (text_lines p n s)) image)) (sym c) ∙ (ap (λ (a : Assembled). answered a image) (ap (λ (v : Verdict). said v (map line_cell (text_lines p n s))) g ∙ judging s (length image / 3) n at p placed) ∙ call-even))
 
 -- ---- the last pass
 
@@ -169,6 +184,3 @@ put_next k ls ms l v image image' e f g =
 pub put-end : (k : ℕ) (ls : List (Line Value)) (image : List ℤ) → ls ≡ [] → image ≡ put_cells k (map line_cell ls) image
 unfolding put_cells
 put-end k ls image e = rw e
-
-pub lookup-is : {f g : List ℕ → Option ℕ} → ((n : List ℕ) → f n ≡ g n) → f ≡ g
-lookup-is h = fun_ext h

@@ -1,113 +1,69 @@
 // The third pass: labels that are missing, set again or beyond 256, and values out of range.
-ghost use Rattle.std.specs.Prelude.{◌≡◌, true, cond, ◌+◌, ◌<◌};
+ghost use Rattle.std.specs.Prelude.{◌≡◌, true, ◌<◌, Ok};
 ghost use Rattle.expression.specs.Values.{values};
-ghost use Rattle.expression.specs.Table.{lookup, Usable, place_found};
+ghost use Rattle.expression.specs.Labels.{lookup};
 ghost use Rattle.assembly.specs.Reader.{rows};
-ghost use Rattle.line.specs.Code.{label_told, body_told, line_told};
 ghost use Rattle.assembly.specs.Assemble.{exceeds};
-ghost use Rattle.assembler.specs.Meaning.{is_at, is_whole, label_fails, line_fails, label_count, first_beyond, ranged, text_lines, judge};
+ghost use Rattle.line.specs.Code.{label_told, body_told, line_told};
+ghost use Rattle.assembler.specs.Meaning.{is_whole, label_fails, line_fails, ruled, text_lines, judge};
 
 use super::values::{exceeds, misses};
-use definition::Done;
-use expression::table::Found;
+use definition::answers::{Refusal, check};
+use expression::labels::Labels;
 use line::content::row;
-use line::{Body, Line, LineRead};
-
-pub fn is_at(k: usize, f: Found) -> bool
-    ensures { result ≡ is_at k (place_found f) }
-{
-    let Found::At(j) = f else {
-        return false;
-    };
-    j == k
-}
+use line::{Body, Line};
 
 // "set again or beyond 256": the label of line k, after c others.
-pub fn label_fails(
-    s: &[u8],
-    labels: &[usize],
-    k: usize,
-    c: usize,
-    labelled: bool,
-    name: usize,
-) -> bool
-    requires { Usable labels.now }
-    ensures { result ≡ label_fails (lookup s.now labels.now) k c (label_told s.now labelled name) }
+pub fn label_fails(labels: &Labels, k: usize, c: usize, label: Option<&[u8]>) -> bool
+    ensures { result ≡ label_fails (lookup labels.now) k c (label_told label.entry) }
 {
-    if labelled {
-        if 256 <= c {
-            return true;
-        }
-        return !is_at(k, expression::table::find(s, labels, name));
+    let Some(name) = label else {
+        return false;
+    };
+    if c >= 256 {
+        return true;
     }
-    false
+    match labels.find(name) {
+        Some(line) => line != k,
+        None => true,
+    }
 }
 
-pub fn line_fails(s: &[u8], labels: &[usize], k: usize, c: usize, l: Line) -> bool
-    requires { Usable labels.now }
-    ensures { result ≡ line_fails (lookup s.now labels.now) k c (line_told s.now l) }
+pub fn line_fails(labels: &Labels, k: usize, c: usize, line: Line) -> bool
+    ensures { result ≡ line_fails (lookup labels.now) k c (line_told line.entry) }
 {
-    let b = l.body;
-    label_fails(s, labels, k, c, l.labelled, l.name) | misses(b)
+    label_fails(labels, k, c, line.label) | misses(line.body)
 }
 
-pub fn label_count(labelled: bool) -> usize
-    ensures { result ≡ cond labelled 1 0 }
-{
-    if labelled { 1 } else { 0 }
-}
-
-pub fn first_beyond(w: usize, b: Body, k: usize) -> usize
+// The verdict on the values up to line k.
+pub fn ruled(verdict: Result<(), Refusal>, body: Body, k: usize) -> Result<(), Refusal>
     requires { k < 18446744073709551615 }
-    ensures { result ≡ first_beyond w (exceeds (body_told b)) k }
+    ensures { result ≡ ruled verdict (exceeds (body_told body)) k }
 {
-    if w == 0 {
-        if exceeds(b) {
-            return k + 1;
-        }
-        return 0;
-    }
-    w
-}
-
-pub fn ranged(w: usize) -> Done
-    ensures { result ≡ ranged w }
-{
-    if w == 0 {
-        return Done {
-            refusal: 0,
-            place: 0,
-        };
-    }
-    Done {
-        refusal: 15,
-        place: w as u64,
+    match verdict {
+        Ok(()) => check(!exceeds(body), Refusal::Value(k as u64 + 1)),
+        Err(refusal) => Err(refusal),
     }
 }
 
-pub fn judge(s: &[u8], labels: &[usize], count: usize) -> Done
-    requires { Usable labels.now × (is_whole (rows (values (lookup s.now labels.now)) 32 count s.now) ≡ true) }
-    ensures { result ≡ judge (lookup s.now labels.now) 0 0 0 (text_lines (lookup s.now labels.now) count s.now) }
+// Of a text that is whole, with at most so many lines.
+pub fn judge(text: &[u8], labels: &Labels, count: usize) -> Result<(), Refusal>
+    requires { is_whole (rows (values (lookup labels.now)) 32 count text.now) ≡ true }
+    ensures { result ≡ judge (lookup labels.now) 0 0 (Ok tt) (text_lines (lookup labels.now) count text.now) }
 {
-    let mut at: usize = 0;
-    let mut k: usize = 0;
-    let mut c: usize = 0;
-    let mut w: usize = 0;
-    while at < s.len() {
-        let LineRead::Is(l, n) = row(s, labels, at) else {
-            return ranged(w);
+    let mut rest = text;
+    let mut set = 0;
+    let mut verdict = Ok(());
+    for k in 0..count {
+        let Some((line, after)) = row(rest, labels) else {
+            return verdict;
         };
-        if line_fails(s, labels, k, c, l) {
-            return Done {
-                refusal: 14,
-                place: k as u64 + 1,
-            };
+        if line_fails(labels, k, set, line) {
+            return Err(Refusal::Label(k as u64 + 1));
         }
-        let b = l.body;
-        w = first_beyond(w, b, k);
-        c += label_count(l.labelled);
-        at = n;
-        k += 1;
+        verdict = ruled(verdict, line.body, k);
+        set += line.label.is_some() as usize;
+        rest = after;
     }
-    ranged(w)
+    verdict
 }

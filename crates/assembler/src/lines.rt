@@ -1,44 +1,28 @@
 // The first pass: is every line in order, and is there room for it?
 ghost use Rattle.std.specs.Prelude.{◌≡◌};
 ghost use Rattle.expression.specs.Values.{values};
-ghost use Rattle.expression.specs.Table.{lookup, Usable};
+ghost use Rattle.expression.specs.Labels.{lookup};
 ghost use Rattle.assembly.specs.Reader.{rows};
 ghost use Rattle.assembler.specs.Meaning.{shape};
 
-use line::LineRead;
+use definition::answers::Refusal;
+use expression::labels::Labels;
 use line::content::row;
 
-// How many lines stand in order, and whether these are all.
-#[derive(Clone, Copy)]
-pub struct Extent {
-    pub whole: bool,
-    pub lines: usize,
-}
-
-pub fn read_all(s: &[u8], labels: &[usize], room: usize) -> Extent
-    requires { Usable labels.now }
-    ensures { result ≡ shape (rows (values (lookup s.now labels.now)) 32 room s.now) }
+// The count of lines of a text that has room and is in order, or the first line, from 1, that is not.
+pub fn count_lines(text: &[u8], labels: &Labels, room: usize) -> Result<usize, Refusal>
+    ensures { result ≡ shape 0 (rows (values (lookup labels.now)) 32 room text.now) }
 {
-    let mut at: usize = 0;
-    let mut k: usize = 0;
-    while at < s.len() {
-        if k == room {
-            return Extent {
-                whole: false,
-                lines: k,
-            };
+    let mut rest = text;
+    let mut count = 0;
+    while !rest.is_empty() {
+        match row(rest, labels) {
+            Some((_, after)) if count < room => {
+                rest = after;
+                count += 1;
+            }
+            _ => return Err(Refusal::Form(count as u64 + 1)),
         }
-        let LineRead::Is(l, n) = row(s, labels, at) else {
-            return Extent {
-                whole: false,
-                lines: k,
-            };
-        };
-        at = n;
-        k += 1;
     }
-    Extent {
-        whole: true,
-        lines: k,
-    }
+    Ok(count)
 }

@@ -1,126 +1,93 @@
 // What is wrong with a line's values, and the cell that it makes.
+#![tactic(auto, unfolding(assembly::specs::Assemble::arg_misses, assembly::specs::Assemble::misses, assembly::specs::Assemble::arg_exceeds, assembly::specs::Assemble::exceeds, assembly::specs::Assemble::arg_register, assembly::specs::Assemble::arg_number, assembly::specs::Assemble::body_cell))]
+
 ghost use Rattle.std.specs.Prelude.{◌≡◌, ◌<◌};
 ghost use Rattle.definition.specs.Encoding.{tag_of};
-ghost use Rattle.assembly.specs.Assemble.{arg_misses, misses, arg_exceeds, exceeds, arg_register, arg_number, body_cell};
 ghost use Rattle.assembly.specs.Grammar.{mode};
+ghost use Rattle.assembly.specs.Assemble.{arg_misses, misses, arg_exceeds, exceeds, arg_register, arg_number, body_cell};
 ghost use Rattle.line.specs.Code.{arg_told, body_told};
-ghost use Rattle.assembler.specs.Modes.{has_value, has_register};
 
 use definition::Cell;
 use line::{Arg, Body};
 
-pub fn has_value(m: u32) -> bool
-    ensures { result ≡ has_value m }
+pub fn arg_misses(arg: Arg) -> bool
+    ensures { result ≡ arg_misses (arg_told arg) }
 {
-    (m == 1) | ((m == 3) | (m == 5))
-}
-
-pub fn has_register(m: u32) -> bool
-    ensures { result ≡ has_register m }
-{
-    (m == 2) | ((m == 4) | (m == 5))
-}
-
-pub fn arg_misses(x: Arg) -> bool
-    ensures { result ≡ arg_misses (arg_told x) }
-{
-    let v = x.value;
-    has_value(x.mode) & v.missing
+    match arg {
+        Arg::Imm(v) | Arg::Dir(v) | Arg::Idx(_, v) => v.missing,
+        Arg::None | Arg::Reg(_) | Arg::Ind(_) => false,
+    }
 }
 
 // "label missing"
-pub fn misses(b: Body) -> bool
-    ensures { result ≡ misses (body_told b) }
+pub fn misses(body: Body) -> bool
+    ensures { result ≡ misses (body_told body) }
 {
-    if b.op == 33 {
-        let x = b.x;
-        let v = x.value;
-        return v.missing;
+    match body {
+        Body::Word(v) => v.missing,
+        Body::Code(_, x, y) => arg_misses(x) | arg_misses(y),
     }
-    arg_misses(b.x) | arg_misses(b.y)
 }
 
-pub fn arg_exceeds(x: Arg) -> bool
-    ensures { result ≡ arg_exceeds (arg_told x) }
+pub fn arg_exceeds(arg: Arg) -> bool
+    ensures { result ≡ arg_exceeds (arg_told arg) }
 {
-    let v = x.value;
-    if x.mode == 3 {
-        return v.overflow | !word::is_address(v.value);
+    match arg {
+        Arg::Imm(v) | Arg::Idx(_, v) => v.overflow,
+        Arg::Dir(v) => v.overflow | !word::is_address(v.value),
+        Arg::None | Arg::Reg(_) | Arg::Ind(_) => false,
     }
-    has_value(x.mode) & v.overflow
 }
 
 // "value out of range"
-pub fn exceeds(b: Body) -> bool
-    ensures { result ≡ exceeds (body_told b) }
+pub fn exceeds(body: Body) -> bool
+    ensures { result ≡ exceeds (body_told body) }
 {
-    if b.op == 33 {
-        let x = b.x;
-        let v = x.value;
-        return v.overflow;
+    match body {
+        Body::Word(v) => v.overflow,
+        Body::Code(_, x, y) => arg_exceeds(x) | arg_exceeds(y),
     }
-    arg_exceeds(b.x) | arg_exceeds(b.y)
 }
 
-pub fn arg_mode(x: Arg) -> u64
-    ensures { (result ≡ mode (arg_told x)) × (result < 6) }
+pub fn arg_register(arg: Arg) -> u32
+    ensures { result ≡ arg_register (arg_told arg) }
 {
-    if x.mode < 6 {
-        return x.mode as u64;
+    match arg {
+        Arg::Reg(r) | Arg::Ind(r) | Arg::Idx(r, _) => r,
+        Arg::None | Arg::Imm(_) | Arg::Dir(_) => 0,
     }
-    0
 }
 
-pub fn arg_register(x: Arg) -> u64
-    ensures { (result ≡ arg_register (arg_told x)) × (result < 4294967296) }
+pub fn arg_number(arg: Arg) -> i64
+    ensures { result ≡ arg_number (arg_told arg) }
 {
-    if has_register(x.mode) {
-        return x.reg as u64;
+    match arg {
+        Arg::Imm(v) | Arg::Dir(v) | Arg::Idx(_, v) => v.value,
+        Arg::None | Arg::Reg(_) | Arg::Ind(_) => 0,
     }
-    0
-}
-
-pub fn arg_number(x: Arg) -> i64
-    ensures { result ≡ arg_number (arg_told x) }
-{
-    let v = x.value;
-    if has_value(x.mode) {
-        return v.value;
-    }
-    0
 }
 
 // "An instruction's tag is 2 + ((op × 36 + m1 × 6 + m2) × 25 + r1 × 5 + r2)."
-pub fn tag(op: u32, m1: u64, m2: u64, r1: u64, r2: u64) -> u64
-    requires { (m1 < 6) × (m2 < 6) × (r1 < 4294967296) × (r2 < 4294967296) }
-    ensures { (result ≡ tag_of op m1 m2 r1 r2) × (result < 9223372036854775808) }
+pub fn tag(op: u32, x: Arg, y: Arg) -> u64
+    ensures { (result ≡ tag_of op (mode (arg_told x)) (mode (arg_told y)) (arg_register (arg_told x)) (arg_register (arg_told y))) × (result < 9223372036854775808) }
 {
-    2 + ((op as u64 * 36 + m1 * 6 + m2) * 25 + r1 * 5 + r2)
+    let form = op as u64 * 36 + x.mode() as u64 * 6 + y.mode() as u64;
+    2 + (form * 25 + arg_register(x) as u64 * 5 + arg_register(y) as u64)
 }
 
-pub fn body_cell(b: Body) -> Cell
-    ensures { result ≡ body_cell (body_told b) }
+pub fn body_cell(body: Body) -> Cell
+    ensures { result ≡ body_cell (body_told body) }
 {
-    let x = b.x;
-    let y = b.y;
-    if b.op == 33 {
-        let v = x.value;
-        return Cell {
+    match body {
+        Body::Word(v) => Cell {
             tag: 1,
             first: v.value,
             second: 0,
-        };
-    }
-    let t = tag(
-        b.op,
-        arg_mode(x),
-        arg_mode(y),
-        arg_register(x),
-        arg_register(y),
-    );
-    Cell {
-        tag: t as i64,
-        first: arg_number(x),
-        second: arg_number(y),
+        },
+        Body::Code(op, x, y) => Cell {
+            tag: tag(op, x, y) as i64,
+            first: arg_number(x),
+            second: arg_number(y),
+        },
     }
 }

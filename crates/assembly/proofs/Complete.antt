@@ -13,11 +13,10 @@ use Rattle.expression.specs.Grammar.{Expr, Number, Gap, Digits, Letters, Part, s
 use Rattle.expression.specs.Grammar as EG
 use Rattle.expression.specs.Reader.{same, gives, refused, then, head, tail, front, past, is_space, is_digit, is_letter, is_star, is_sign, skip, signed, trees, numbered}
 use Rattle.expression.specs.Table.{is_labelled}
-use Rattle.expression.proofs.Spans.{clash, every, front_of, past_of}
+use Rattle.expression.proofs.Spans.{past-more, clash, every, front_of, past_of}
 use Rattle.expression.proofs.Chain.{never}
 use Rattle.expression.proofs.Sound.{both, digit-bounds}
 use Rattle.expression.proofs.Complete.{Free, skip-gap, gap-digit, gap-letter, every-digit, decimal-digits, head-digits, every-letter, head-letters, letter-no-space, reads}
-use Rattle.expression.proofs.Places.{past-on, space-ends}
 use Rattle.assembly.specs.Grammar.{Arg, None, Imm, Reg, Dir, Ind, Idx, mode, Body, Word, Code, Line, line, mnemonics, registers, dot_word, Named, named, Mark, mark, Register, register, Index, Operand, Content, Row, Rows}
 use Rattle.assembly.specs.Grammar as G
 use Rattle.assembly.specs.Reader.{number_from, number_of, expect, indexed, operand, coded, operands, word_after, content, ended, row, Text, lines, broken, onto, rows, rows_after}
@@ -64,7 +63,7 @@ mark-expected {X} {b} {s} x r k h = rw (eq-eqb (head (s ++ r)) b (mark-head r k)
 spaces-skip : {s : List ℕ} (r : List ℕ) → Mark 32 s → is_space (head r) ≡ false → skip (s ++ r) ≡ r
 unfolding is_space head
 spaces-skip {s} r k h =
-    past-on is_space space-ends (s ++ r) (eq-eqb (head (s ++ r)) 32 (mark-head r k)) ∙ mark-skip r k h
+    sym (past-more is_space (s ++ r) (eq-eqb (head (s ++ r)) 32 (mark-head r k))) ∙ mark-skip r k h
 
 -- ---- the first byte of a value
 

@@ -16,7 +16,7 @@ use Rattle.expression.specs.Table.{is_labelled, sets, is_inner, next_line, setti
 use Rattle.expression.proofs.Spans.{by_bool, every, past_of}
 use Rattle.expression.proofs.Chain.{middle, when, value_of}
 use Rattle.expression.proofs.Complete.{every_append}
-use Rattle.expression.proofs.Lookup.{setting-nil, setting-step}
+use Rattle.expression.proofs.Names.{setting-nil, setting-step}
 use Rattle.assembly.specs.Grammar.{Arg, Body, Line, line, mnemonics, registers, Named, named, Mark, mark, Register, register, Index, Operand, Content, Row}
 use Rattle.assembly.specs.Grammar as G
 use Rattle.assembly.specs.Reader.{content, ended, row, lines, rows, rows_after}

@@ -13,11 +13,10 @@ use Rattle.definition.specs.Encoding.{legal}
 use Rattle.expression.specs.Grammar.{Expr, Number, Gap, Letters, sum, Reads}
 use Rattle.expression.specs.Reader.{same, Outcome, gives, refused, then, head, tail, front, past, is_space, is_digit, is_letter, skip, decimal, signed, trees, numbered, read_sum}
 use Rattle.expression.specs.Table.{is_labelled}
-use Rattle.expression.proofs.Spans.{by_bool, front-past, front-every}
+use Rattle.expression.proofs.Spans.{past-more, by_bool, front-past, front-every}
 use Rattle.expression.proofs.Chain.{middle, when, rest_of, value_of}
 use Rattle.expression.proofs.Sound.{both, gap_of, digits, letters, front-head, token, equal-ends, skipped}
 use Rattle.expression.proofs.Sound as E
-use Rattle.expression.proofs.Places.{past-on, space-ends}
 use Rattle.assembly.specs.Grammar.{Arg, None, Imm, Reg, Dir, Ind, Idx, mode, Body, Word, Code, Line, line, mnemonics, registers, dot_word, Named, Mark, mark, Register, register, Index, Operand, Content, Row, Rows}
 use Rattle.assembly.specs.Grammar as G
 use Rattle.assembly.specs.Reader.{number_of, expect, indexed, operand, coded, operands, word_after, content, ended, row, Text, lines, broken, onto, rows, rows_after}
@@ -126,7 +125,7 @@ module _ (d : ℕ) where
 
   space-cut : (t : List ℕ) {Y : Type 0} (y : Y) → is_space (head t) ≡ true → Cut (λ s z. Mark 32 s) t y (skip t)
   unfolding is_space
-  space-cut t y h = rw (past-on is_space space-ends t h) (mark-cut 32 y t refl h)
+  space-cut t y h = rw (sym (past-more is_space t h)) (mark-cut 32 y t refl h)
 
   operands-sound : (o : ℕ) (m t : List ℕ) (b : Body Expr) (r : List ℕ) → Named mnemonics m o → operands trees d o t ≡ gives b r → Cut (λ s x. Content d (m ++ s) x) t b r
   unfolding operands coded mode

@@ -9,7 +9,7 @@ use lib.Seq.{length-take-le, take_at, drop_at, take-append-add, drop-append-add,
 use Rattle.definition.specs.Calls.{Lent, lent}
 use Rattle.bench.specs.declared.Seat.{Seat}
 use Rattle.bench.specs.Bench.{Seated, part_of, machine_at, machines, seats_of, buffers_of, list_of}
-use Rattle.bench.specs.Clock.{with_part, with_machine}
+use Rattle.bench.specs.Turn.{with_part, with_machine}
 use Rattle.bench.specs.Laws.{seat_at}
 
 -- a part lies within

@@ -1,4 +1,5 @@
 pub mod Seat
 pub mod Bench
-pub mod Clock
+pub mod Refused
+pub mod Turn
 pub mod Laws

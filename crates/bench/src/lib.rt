@@ -1,10 +1,14 @@
-// "One bench, sixteen seats." A bench list has one record for each seat: a lent slice of these, updated by a thin function after a turn.
+// "One bench, sixteen seats." A bench list has one record for each seat: a lent slice of these, updated in place after a turn.
 #![tactic(auto)]
 
-ghost use Rattle.std.specs.Prelude.{◌≡◌, ◌+◌, ◌<◌, ◌^◌, length, set, get_or};
-ghost use Rattle.bench.specs.Seat.{no_seat, can_go_on, least, turn_budget, after};
+ghost use Rattle.std.specs.Prelude.{◌≡◌};
+ghost use Rattle.std.specs.List.{list_any};
+ghost use Rattle.bench.specs.Seat.{can_go_on};
+ghost use Rattle.bench.specs.Refused.{answered};
 
-pub mod clock;
+use definition::answers::Refusal;
+
+pub mod buffers;
 
 // "its step limit, steps used and last stop"
 #[repr(C)]
@@ -13,6 +17,44 @@ pub struct Seat {
     pub limit: u64,
     pub used: u64,
     pub stop: u32,
+}
+
+impl Seat {
+    ghost use Rattle.std.specs.Prelude.{◌+◌, ◌<◌, ◌^◌};
+    ghost use Rattle.bench.specs.Seat.{turn_budget, after};
+
+    // "passing over seats that stopped other than by 0 or reached their limit"
+    #[tactic(auto, unfolding(crate::specs::Seat::can_go_on))]
+    pub fn can_go_on(&self) -> bool
+        ensures { result ≡ can_go_on self.now }
+    {
+        self.stop == 0 && self.used < self.limit
+    }
+
+    // "a run on the least of 100, its limit's rest and the total's"
+    #[tactic(auto, unfolding(crate::specs::Seat::turn_budget, crate::specs::Seat::least))]
+    pub fn turn_budget(self, total: u64) -> u64
+        ensures is { result ≡ turn_budget self total }
+        ensures fits { self.used + result < 2 ^ 64 }
+    {
+        self.limit.saturating_sub(self.used).min(total).min(100)
+    }
+
+    // After a turn: its steps are added, its stop is the last, the limit stays.
+    pub fn update(&mut self, steps: u64, stop: u32)
+        requires { self.old.used + steps < 2 ^ 64 }
+        ensures { self.new ≡ after steps stop self.old }
+    {
+        self.used += steps;
+        self.stop = stop;
+    }
+}
+
+// Not "nobody can go on".
+pub fn any_can_go_on(list: &[Seat]) -> bool
+    ensures { result ≡ list_any can_go_on list.now }
+{
+    list.iter().any(|seat| seat.can_go_on())
 }
 
 // The call's answer. seat: the one that a refusal is about, from 1, or 0.
@@ -25,48 +67,43 @@ pub struct Benched {
     pub left: u64,
 }
 
-// "passing over seats that stopped other than by 0 or reached their limit"
-pub fn can_go_on(s: Seat) -> bool
-    ensures { result ≡ can_go_on s }
-{
-    (s.stop == 0) & (s.used < s.limit)
+// Why a bench is refused.
+#[derive(Clone, Copy, Debug, PartialEq, Eq)]
+pub enum Refused {
+    // "19 seats not 1 to 16, the list not one record a seat, or a buffer not divisible by seats"
+    Seats,
+    // What run refuses of the machine of this seat, from 1.
+    Machine(u64, Refusal),
 }
 
-fn least(a: u64, b: u64) -> u64
-    ensures { result ≡ least a b }
-{
-    if a < b { a } else { b }
-}
+// "The answer is what is left of the total."
+impl From<Result<u64, Refused>> for Benched {
+    ghost from_gives = { λ r a. a ≡ answered r };
 
-// "a run on the least of 100, its limit's rest and the total's"
-pub fn turn_budget(s: Seat, total: u64) -> u64
-    ensures { result ≡ turn_budget s total }
-{
-    if s.used < s.limit {
-        least(100, least(s.limit - s.used, total))
-    } else {
-        0
+    fn from(r: Result<u64, Refused>) -> Benched
+        ensures { result ≡ answered r }
+    {
+        match r {
+            Ok(left) => Benched {
+                refusal: 0,
+                place: 0,
+                seat: 0,
+                left,
+            },
+            Err(Refused::Seats) => Benched {
+                refusal: Refusal::Seats.number(),
+                place: 0,
+                seat: 0,
+                left: 0,
+            },
+            Err(Refused::Machine(seat, e)) => Benched {
+                refusal: e.number(),
+                place: e.place(),
+                seat,
+                left: 0,
+            },
+        }
     }
-}
-
-// A seat after a turn: its steps are added, its stop is the last, the limit stays.
-pub fn turned(s: Seat, steps: u64, stop: u32) -> Seat
-    requires { s.used + steps < 2 ^ 64 }
-    ensures { result ≡ after steps stop s }
-{
-    Seat {
-        limit: s.limit,
-        used: s.used + steps,
-        stop,
-    }
-}
-
-// The same in the list.
-pub fn update(list: &mut [Seat], i: usize, steps: u64, stop: u32)
-    requires { (i < length list.old) × ((get_or list.old i no_seat).used + steps < 2 ^ 64) }
-    ensures { list.new ≡ set list.old i (after steps stop (get_or list.old i no_seat)) }
-{
-    list[i] = turned(list[i], steps, stop);
 }
 
 // "A bench record stored in 32 bits is taken over with every number equal."
@@ -74,8 +111,8 @@ pub fn take_over(limit: u32, used: u32, stop: u32) -> Seat
     ensures { result ≡ record { limit = limit; used = used; stop = stop } }
 {
     Seat {
-        limit: limit as u64,
-        used: used as u64,
+        limit: limit.into(),
+        used: used.into(),
         stop,
     }
 }

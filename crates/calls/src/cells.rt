@@ -1,43 +1,16 @@
 // "read a cell and load an image (cells)"
-ghost use Rattle.std.specs.Prelude.{◌≡◌, ◌++◌, ◌+◌, ◌*◌, ◌≤◌, length, drop};
+ghost use Rattle.std.specs.Prelude.{◌≡◌, ◌+◌, ◌*◌, ◌≤◌, length};
 ghost use Rattle.definition.specs.Calls.{called, read_cell, load, loaded};
+ghost use Rattle.definition.specs.Answers.{cell_read_of, done_of};
 
-use definition::{CellRead, Done};
+use definition::Cell;
+use definition::answers::Refusal;
 
-pub fn read_cell(cells: &[i64], address: u64) -> CellRead
-    ensures { result ≡ read_cell cells.now address }
+pub fn read_cell(cells: &[i64], address: u64) -> Result<Cell, Refusal>
+    ensures { cell_read_of result ≡ read_cell cells.now address }
 {
-    let d = refusals::read_check(cells, address);
-    if d.refusal == 0 {
-        let v = memory::get_cell(cells, address as usize);
-        return CellRead {
-            refusal: 0,
-            place: 0,
-            tag: v.tag,
-            first: v.first,
-            second: v.second,
-        };
-    }
-    CellRead {
-        refusal: d.refusal,
-        place: d.place,
-        tag: 0,
-        first: 0,
-        second: 0,
-    }
-}
-
-// The image over the front of the part that it is lent.
-pub fn copy(part: &mut [i64], image: &[i64])
-    requires { length image.now ≤ length part.old }
-    ensures { part.new ≡ image.now ++ drop (length image.now) part.old }
-{
-    let mut i: usize = 0;
-    while i < image.len() {
-        let z = image[i];
-        part[i] = z;
-        i += 1;
-    }
+    refusals::read_check(cells, address)?;
+    Ok(memory::get_cell(cells, address as usize))
 }
 
 // "An image is copied into the cells from any start cell"
@@ -46,16 +19,13 @@ pub fn place_image(cells: &mut [i64], image: &[i64], start: usize)
     ensures { cells.new ≡ loaded start image.now cells.old }
 {
     let at = 3 * start;
-    copy(&mut cells[at..], image);
+    cells[at..at + image.len()].copy_from_slice(image);
 }
 
-pub fn load(cells: &mut [i64], image: &[i64], start: u64) -> Done
-    ensures { called result cells.new ≡ load cells.old image.now start }
+pub fn load(cells: &mut [i64], image: &[i64], start: u64) -> Result<(), Refusal>
+    ensures { called (done_of result) cells.new ≡ load cells.old image.now start }
 {
-    let d = refusals::load_check(cells, image, start);
-    if d.refusal == 0 {
-        place_image(cells, image, start as usize);
-        return checks::accept();
-    }
-    d
+    refusals::load_check(cells, image, start)?;
+    place_image(cells, image, start as usize);
+    Ok(())
 }

@@ -2,8 +2,10 @@
 ghost use Rattle.std.specs.Prelude.{◌≡◌, length};
 ghost use Rattle.definition.specs.Constants.{ROW};
 ghost use Rattle.definition.specs.Calls.{called, set_register, with_register};
+ghost use Rattle.definition.specs.Answers.{done_of};
 
-use definition::{Cell, Done, places};
+use definition::answers::Refusal;
+use definition::{Cell, places};
 
 pub fn put_register(row: &mut [i64], r: u64, w: i64)
     requires { length row.old ≡ ROW }
@@ -17,18 +19,15 @@ pub fn put_register(row: &mut [i64], r: u64, w: i64)
     match r {
         0 => row::put_cell(row, places::A, v),
         1 => row::put_cell(row, places::B, v),
-        2 => row::put(row, places::PC, w),
-        _ => row::put(row, places::SP, w),
+        2 => row[places::PC] = w,
+        _ => row[places::SP] = w,
     }
 }
 
-pub fn set_register(row: &mut [i64], r: u64, w: i64) -> Done
-    ensures { called result row.new ≡ set_register row.old r w }
+pub fn set_register(row: &mut [i64], r: u64, w: i64) -> Result<(), Refusal>
+    ensures { called (done_of result) row.new ≡ set_register row.old r w }
 {
-    let d = refusals::set_register_check(row, r, w);
-    if d.refusal == 0 {
-        put_register(row, r, w);
-        return checks::accept();
-    }
-    d
+    refusals::set_register_check(row, r, w)?;
+    put_register(row, r, w);
+    Ok(())
 }

@@ -1,11 +1,15 @@
-// io.rs: the serial console, by value beside the lent queue and output record. Its three marks are changed in crates/marks.
-#![tactic(auto)]
+// io.rs: the serial console, beside the lent queue and output record. Its three marks are changed in crates/marks.
+#![tactic(auto, unfolding(definition::specs::Io::read_port, definition::specs::Io::read_data, definition::specs::Io::write_port, definition::specs::Io::write_data, definition::specs::Io::input_ready, definition::specs::Io::output_full, definition::specs::Io::around, definition::specs::Io::put_bytes, definition::specs::Io::drained))]
 
 ghost use Rattle.std.specs.Prelude.{◌≡◌, List, ℕ, ◌+◌, ◌<◌, ◌≤◌, length, set};
 ghost use Rattle.definition.specs.Io.{around, read_port, read_data, write_port, output_full, put_bytes, drained};
 ghost use Rattle.console.specs.Meaning.{console_of, Sends};
 
 use definition::Marks;
+
+const STATUS_PORT: u32 = 110;
+
+const DATA_PORT: u32 = 111;
 
 // The console without its bytes.
 #[derive(Clone, Copy)]
@@ -16,21 +20,6 @@ pub struct ConsoleState {
     pub written: usize,
 }
 
-// What a port reads, and the console afterwards.
-#[derive(Clone, Copy)]
-pub struct Received {
-    pub value: u8,
-    pub k: ConsoleState,
-}
-
-// The console after a write to a port, and the byte, if one goes out.
-#[derive(Clone, Copy)]
-pub struct Sent {
-    pub k: ConsoleState,
-    pub sends: bool,
-    pub byte: u8,
-}
-
 // A place in the queue, "wrapping at the queue's end".
 pub fn around(size: usize, n: usize) -> usize
     ensures { result ≡ around size n }
@@ -39,80 +28,54 @@ pub fn around(size: usize, n: usize) -> usize
 }
 
 // SerialConsole::read of port 111: "the oldest byte, or 0". "a read moves the start on by one, wrapping too"
-pub fn read_data(queue: &[u8], k: ConsoleState) -> Received
-    requires { k.start < length queue.now }
-    ensures { (output : List ℕ) → (result.value, console_of result.k queue.now output) ≡ read_data (console_of k queue.now output) }
+pub fn read_data(queue: &[u8], k: &mut ConsoleState) -> u8
+    requires { k.old.start < length queue.now }
+    ensures { (output : List ℕ) → (result, console_of k.new queue.now output) ≡ read_data (console_of k.old queue.now output) }
 {
-    let start = k.start;
-    if 0 < k.count {
-        let mut after = k;
-        after.start = around(queue.len(), start + 1);
-        after.count = k.count - 1;
-        Received {
-            value: queue[start],
-            k: after,
-        }
-    } else {
-        Received { value: 0, k }
+    if k.count == 0 {
+        return 0;
     }
+    let byte = queue[k.start];
+    k.start = around(queue.len(), k.start + 1);
+    k.count -= 1;
+    byte
 }
 
 // SerialConsole::read. "Other ports read 0"
-pub fn read_port(queue: &[u8], k: ConsoleState, port: u32) -> Received
-    requires { k.start < length queue.now }
-    ensures { (output : List ℕ) → (result.value, console_of result.k queue.now output) ≡ read_port port (console_of k queue.now output) }
+pub fn read_port(queue: &[u8], k: &mut ConsoleState, port: u32) -> u8
+    requires { k.old.start < length queue.now }
+    ensures { (output : List ℕ) → (result, console_of k.new queue.now output) ≡ read_port port (console_of k.old queue.now output) }
 {
-    if port == 110 {
-        let read = marks::status_read(k.marks, 0 < k.count);
-        let mut after = k;
-        let cleared = read.marks;
-        after.marks = cleared;
-        return Received {
-            value: read.value,
-            k: after,
-        };
+    match port {
+        STATUS_PORT => marks::status_read(&mut k.marks, 0 < k.count),
+        DATA_PORT => read_data(queue, k),
+        _ => 0,
     }
-    if port == 111 {
-        return read_data(queue, k);
-    }
-    Received { value: 0, k }
 }
 
-// SerialConsole::write. "out keeps the low 8 bits on port 111", "Other ports [...] swallow writes."
-pub fn write_port(k: ConsoleState, port: u32, w: i64) -> Sent
-    requires { k.written ≤ 65536 }
-    ensures { Sends k port w result }
+// SerialConsole::write. "out keeps the low 8 bits on port 111", "Other ports [...] swallow writes." The byte, if one goes out.
+pub fn write_port(k: &mut ConsoleState, port: u32, w: i64) -> Option<u8>
+    requires { k.old.written ≤ 65536 }
+    ensures { Sends k.old port w k.new result }
 {
-    if port == 110 {
-        let mut after = k;
-        after.marks = marks::control_written(k.marks, 0 < k.count, w);
-        return Sent {
-            k: after,
-            sends: false,
-            byte: 0,
-        };
-    }
-    if port == 111 {
-        let mut after = k;
-        after.written = k.written + 1;
-        return Sent {
-            k: after,
-            sends: true,
-            byte: word::low_byte(w),
-        };
-    }
-    Sent {
-        k,
-        sends: false,
-        byte: 0,
+    match port {
+        STATUS_PORT => {
+            marks::write_control(&mut k.marks, 0 < k.count, w);
+            None
+        }
+        DATA_PORT => {
+            k.written += 1;
+            Some(word::low_byte(w))
+        }
+        _ => None,
     }
 }
 
 // "the step would write a byte past the output record", of this size
-pub fn output_full(k: ConsoleState, port: u32, size: usize) -> bool
-    ensures { (queue output : List ℕ) → length output ≡ size → result ≡ output_full port (console_of k queue output) }
+pub fn output_full(k: &ConsoleState, port: u32, size: usize) -> bool
+    ensures { (queue output : List ℕ) → length output ≡ size → result ≡ output_full port (console_of k.now queue output) }
 {
-    (port == 111) & (size <= k.written)
+    port == DATA_PORT && size <= k.written
 }
 
 // The byte that a write sends, behind those already written.
@@ -129,11 +92,9 @@ pub fn put_bytes(queue: &mut [u8], at: usize, bytes: &[u8])
     ensures { queue.new ≡ put_bytes at bytes.now queue.old }
 {
     let mut p = at;
-    let mut i: usize = 0;
-    while i < bytes.len() {
-        queue[p] = bytes[i];
+    for &byte in bytes {
+        queue[p] = byte;
         p = around(queue.len(), p + 1);
-        i += 1;
     }
 }
 
@@ -142,9 +103,5 @@ pub fn drain_to(buffer: &mut [u8], output: &[u8], n: usize)
     requires { (n ≤ length output.now) × (n ≤ length buffer.old) }
     ensures { buffer.new ≡ drained n output.now buffer.old }
 {
-    let mut i: usize = 0;
-    while i < n {
-        buffer[i] = output[i];
-        i += 1;
-    }
+    buffer[..n].copy_from_slice(&output[..n]);
 }

@@ -4,7 +4,7 @@
 ghost use Rattle.std.specs.Prelude.{◌≡◌, ◌<◌, leb};
 ghost use Rattle.decimal.specs.Decimal.{cap_step, limit, value_of};
 
-// A digit more; what is larger than every number is 2^63 + 1.
+// A digit more; what is larger than every number is 2^63 + 1. No Option: the digits go on, and with a minus 2^63 still is a number.
 pub fn grown(size: u64, d: u8) -> u64
     requires { d < 10 }
     ensures { result ≡ cap_step size d }

@@ -1,7 +1,10 @@
 -- A run of an accepted machine leaves an accepted machine, in either mode; its steps and its stop.
+use Rattle.definition.specs.declared.Executed.{Executed}
+use Rattle.definition.specs.declared.Request.{Request}
+use Rattle.definition.specs.declared.Request.TheVariants.{Nothing, Reads, Writes}
 use mathlib.Core.Path.{◌≡◌, refl, sym, ap, ◌∙◌, subst}
 use mathlib.Core.Bool.{Bool, true, false, cond, ◌&&◌}
-use Prim.Native.Nat.{ℕ, zero, suc, ◌+◌, ◌-◌, ◌<◌, ◌≤◌}
+use Prim.Native.Nat.{ℕ, zero, suc, ◌-◌, ◌<◌, ◌≤◌}
 use native.Mathlib.Omega.{arith}
 use lib.IntN.{ℤ, pos}
 use lib.ListN.{length, get_or, length-set}
@@ -14,19 +17,18 @@ use Rattle.definition.specs.declared.Error.TheVariants.{DivByZero, InvalidInstru
 use Rattle.definition.specs.declared.Ran.{Ran}
 use Rattle.definition.specs.Constants.{CYCLES-END, TIMER-INTERVAL-PORT}
 use Rattle.definition.specs.Total.{TOTAL-MOST}
-use Rattle.definition.specs.Exception.{stop, ending, HARDWARE-INTERRUPT, NO-HANDLER, OUTPUT-FULL, CYCLES-FULL}
+use Rattle.definition.specs.Exception.{ending, HARDWARE-INTERRUPT, NO-HANDLER, OUTPUT-FULL, CYCLES-FULL}
 use Rattle.definition.specs.Memory.{word}
 use Rattle.definition.specs.Registers.{interrupt_enable}
 use Rattle.definition.specs.Io.{Console, with_marks, input_ready, status, read_status, write_control, around, read_data, read_port, write_data, write_port, output_full}
 use Rattle.definition.specs.Timer.{with_timer_mark, set_timer, read_timer}
 use Rattle.definition.specs.Exec.{Core, Res, ok, err}
-use Rattle.definition.specs.Instructions.{Request, nothing, reads, writes, set_register}
-use Rattle.definition.specs.Runtime.{Machine, with_core, with_cycles, with_console, with_timer, with_mark, executed, Executed, attempt, Turn, completes, enters, stops, ends, poll, conclude, serve, after_attempt, guard, turn, Outcome, completed, stopped, has_handler, entered, recover, elapsed, elapses, settle, reached, limit, step, Run, uncounted, later, go_on, run}
-use Rattle.definition.specs.Calls.{Lent, lent_machine, lent_of, Called, passes, run_check, ran, run_refused, run_call}
+use Rattle.definition.specs.Instructions.{set_register}
+use Rattle.definition.specs.Runtime.{Machine, with_core, with_cycles, with_console, with_timer, with_mark, executed, attempt, Turn, completes, enters, stops, ends, poll, conclude, serve, after_attempt, guard, turn, Outcome, completed, stopped, has_handler, entered, recover, elapses, settle, reached, limit, step, Run, uncounted, later, go_on, run}
+use Rattle.definition.specs.Calls.{Lent, lent_machine, lent_of, Called, run_check, ran, run_refused, run_call}
 use Rattle.definition.specs.UserMode.{Accepted}
 use Rattle.definition.specs.Accepted.{Sound, AcceptedCore, ConsoleIn, TimerIn, AcceptedMachine, RunsAccepted}
 -- Not cited: the table is proved first, so that a wrong rule is refused at a row that shows it.
-use Rattle.definition.proofs.Course.{course}
 use Rattle.definition.proofs.Total.{total-most}
 use Rattle.definition.proofs.Ticks.{tick-in, entry_in, set-in}
 use Rattle.definition.proofs.Keeps.{Good, k-set, attempt-keeps}
@@ -146,10 +148,10 @@ conclude-in cost m (err e c) b g = ends-in e (with_core c m) (both-core m c b g)
 
 serve-in : (m : Machine) (q : Request) (cost : ℕ) (c : Core) → Both m → AcceptedCore m.fence c → TurnHas Both (serve m q cost c)
 unfolding serve
-serve-in m nothing cost c b f = conclude-in cost m (ok tt c) b (tt, f)
-serve-in m (reads p r) cost c b f =
+serve-in m Nothing cost c b f = conclude-in cost m (ok tt c) b (tt, f)
+serve-in m (Reads p r) cost c b f =
     conclude-in cost (with_console (read_port p m.console).1 m) (set_register r (word (pos (read_timer p m.timer (read_port p m.console).0))) c) (both-console m _ b (read-in p m.console b.console_in)) ((k-set 0 (AcceptedCore m.fence) Sound (Unit {0}) (λ (q : Request). Unit {0}) (any_laws 0 m.fence) r _ (word_sound _)).at c f)
-serve-in m (writes p w) cost c b f = go (output_full p m.console) refl (eqb p TIMER-INTERVAL-PORT)
+serve-in m (Writes p w) cost c b f = go (output_full p m.console) refl (eqb p TIMER-INTERVAL-PORT)
   where
     go : (t : Bool) → output_full p m.console ≡ t → (d : Bool) → TurnHas Both (cond t (stops OUTPUT-FULL 0 m) (cond d (poll (with_timer (set_timer w m.timer) (executed cost c m))) (conclude cost (with_console (write_port p w m.console) m) (ok tt c))))
     go true e d = (omega arith, b)

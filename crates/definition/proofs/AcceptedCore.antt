@@ -1,6 +1,8 @@
 -- What acceptance says of cells and registers, and that every instruction keeps it: the two instances of Keeps.
+use Rattle.definition.specs.declared.Request.{Request}
+use Rattle.definition.specs.declared.Request.TheVariants.{Nothing}
 use mathlib.Core.Path.{◌≡◌, refl, sym, ap, ◌∙◌}
-use mathlib.Core.Bool.{true, false, true≢false}
+use mathlib.Core.Bool.{false, true≢false}
 use mathlib.Core.List.{List}
 use Prim.Native.Nat.{ℕ, ◌*◌, ◌<◌}
 use native.Mathlib.Omega.{arith}
@@ -13,7 +15,6 @@ use Rattle.definition.specs.Memory.{word, cell_count, cell_at, put_cell}
 use Rattle.definition.specs.Registers.{supervisor}
 use Rattle.definition.specs.Encoding.{sound, sound_at}
 use Rattle.definition.specs.Exec.{Core, with_regs, with_cells}
-use Rattle.definition.specs.Instructions.{Request, nothing}
 use Rattle.definition.specs.Runtime.{Machine}
 use Rattle.definition.proofs.Bits.{put_other}
 use Rattle.definition.specs.Accepted.{Addr, Sound, AcceptedCore}
@@ -82,7 +83,7 @@ pub record User (f : ℕ) (c : Core) : Type 0 where
   pub clear : supervisor c.regs ≡ false
 
 abbrev pub Silent : Request → Type 0
-Silent q = q ≡ nothing
+Silent q = q ≡ Nothing
 
 pub user-laws : (g f : ℕ) → Laws g (User f) Sound ⊥ Silent
 unfolding supervisor

@@ -13,7 +13,7 @@ use Rattle.definition.specs.Exec.{and_then, branch, or_word, or_address, or_cell
 use Rattle.definition.specs.Instructions.{and_flags, put_result, put_wrapped, put_compared, put_quotient, put_shifted, words, neg, not_op, jump, jump_if, call, rtn, pop_op, push_op, ld, st, fas, swap_back, swap, rti, reset, quiet, in_op, out_op, execute}
 use Rattle.definition.specs.Runtime.{or_instruction, fetch, attempt, ends, poll, conclude, serve, after_attempt, guard, turn, has_handler, saved, entered_sr, entered_registers, entered_core, entered, recover, elapses, settle, reached, limit, step, later, go_on, run}
 use Rattle.definition.specs.Calls.{machine_of, row_of, verdict, is_below, is_mark, lowest_damaged, cells_test, queue_test, output_test, length_test, row_tests, damage_test, fresh_check, fresh, run_check, ran, run_refused, run_call, deliver_check, delivered_row, deliver, drain_check, drain, read_check, read_cell, load_check, loaded, load, is_settable, set_register_check, with_register, set_register, raise_check, raised, raise, calls, answers, lent_supervisor}
-use Rattle.definition.specs.Course.{Raises, Course, table, cells_of, lent_case, shown, Shows, raised_row}
+use Rattle.definition.specs.Course.{Course, table, cells_of, lent_case, shown, Shows, raised_row}
 
 -- Every definition is opened, and the table runs.
 pub course : Course

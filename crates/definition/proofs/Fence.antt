@@ -1,21 +1,21 @@
 -- The fence: cells below it hold what they held, save where the handler is entered. Over steps, and over lists of calls of run.
 use mathlib.Core.Path.{◌≡◌, refl, sym, ap, ◌∙◌, subst}
-use mathlib.Core.Bool.{Bool, true, false}
+use mathlib.Core.Bool.{false}
 use mathlib.Core.List.{List, [], ◌∷◌, ◌++◌}
-use Prim.Native.Nat.{ℕ, zero, suc, ◌/◌, ◌<◌, ◌≤◌}
+use Prim.Native.Nat.{ℕ, zero, suc, ◌/◌, ◌<◌}
 use native.Mathlib.Omega.{arith}
 use lib.IntN.{ℤ, pos}
 use lib.ListN.{length, get_or, drop}
 use Rattle.definition.specs.Constants.{ROW-FENCE}
 use Rattle.definition.specs.Memory.{cell_count, cell_at}
 use Rattle.definition.specs.Registers.{supervisor}
-use Rattle.definition.specs.Runtime.{Machine, Outcome, completed, stopped, entered, reached, step, uncounted}
+use Rattle.definition.specs.Runtime.{Machine, Outcome, completed, stopped, reached, step, uncounted}
 use Rattle.definition.specs.Calls.{Lent, lent_machine, lent_of, lent_supervisor, at, machine_of, row_of, run_call, calls}
-use Rattle.definition.specs.UserMode.{Accepted, GoesNoFurther}
+use Rattle.definition.specs.UserMode.{GoesNoFurther}
 use Rattle.definition.specs.Accepted.{AcceptedMachine}
-use Rattle.definition.specs.Fence.{Holds, KernelHolds, steps, EntersHandler, FencedSteps, BegunClear, StepsFenced, fence_of, EntersLast, FencedCalls, CallsFenced}
+use Rattle.definition.specs.Fence.{Holds, KernelHolds, steps, EntersHandler, FencedSteps, BegunClear, StepsFenced, FencedCalls, CallsFenced}
 use Rattle.definition.proofs.AcceptedCore.{InUser}
-use Rattle.definition.proofs.UserStep.{around, Entered, Ends, stays, entry, OutcomeEnds, step-ends}
+use Rattle.definition.proofs.UserStep.{around, stays, entry, OutcomeEnds, step-ends}
 use Rattle.definition.proofs.Held.{Held, held-here, held_on, held-uncounted, clear-uncounted, user-uncounted, step-held, step-user}
 use Rattle.definition.proofs.Row.{accepted-machine, row_back}
 use Rattle.definition.proofs.UserMode.{lent-supervisor, rest_of, UserCalls, user-calls}

@@ -1,5 +1,8 @@
 -- Steps begun with S clear: what they leave as it was. The fence stays, and below it every cell but those that entry writes.
-use mathlib.Core.Path.{◌≡◌, refl, sym, ap, ◌∙◌, subst}
+use Rattle.definition.specs.declared.Ending.{Ending}
+use Rattle.definition.specs.declared.Ending.TheVariants.{Exception, Stop}
+use Rattle.definition.specs.declared.Executed.{Executed}
+use mathlib.Core.Path.{◌≡◌, refl, sym, ◌∙◌, subst}
 use mathlib.Core.Logic.{◌≢◌}
 use mathlib.Core.Bool.{Bool, true, false, cond, true≢false, ◌&&◌}
 use mathlib.Core.List.{List}
@@ -9,18 +12,18 @@ use lib.IntN.{ℤ}
 use lib.ListN.{length}
 use lib.Dec.{ltb}
 use Rattle.definition.specs.Constants.{CYCLES-END}
-use Rattle.definition.specs.Exception.{Ending, exception, stop, ending, HARDWARE-INTERRUPT, NO-HANDLER, CYCLES-FULL}
+use Rattle.definition.specs.Exception.{ending, HARDWARE-INTERRUPT, NO-HANDLER, CYCLES-FULL}
 use Rattle.definition.specs.Memory.{cell_at}
 use Rattle.definition.specs.Timer.{with_timer_mark}
 use Rattle.definition.specs.Registers.{supervisor, interrupt_enable}
-use Rattle.definition.specs.Exec.{Core, Res, ok, err}
-use Rattle.definition.specs.Runtime.{Machine, with_core, with_timer, with_mark, executed, Executed, attempt, Turn, completes, enters, stops, ends, poll, after_attempt, guard, turn, Outcome, completed, stopped, has_handler, saved, entered_registers, entered_core, entered, recover, elapsed, elapses, settle, reached, limit, step, uncounted, later, go_on, run}
+use Rattle.definition.specs.Exec.{Res, ok, err}
+use Rattle.definition.specs.Runtime.{Machine, with_core, with_timer, with_mark, attempt, Turn, completes, enters, stops, ends, poll, after_attempt, guard, turn, Outcome, completed, stopped, has_handler, saved, entered_registers, entered_core, entered, recover, elapsed, elapses, settle, reached, limit, step, uncounted, later, go_on, run}
 use Rattle.definition.specs.Accepted.{Sound}
 use Rattle.definition.proofs.Cells.{length-put, cell_other}
 use Rattle.definition.proofs.Ticks.{tick-interval, entry-interval}
 use Rattle.definition.proofs.Keeps.{Good, attempt-keeps}
 use Rattle.definition.proofs.AcceptedCore.{InUser, Silent, Kernel, user-laws, kernel-laws}
-use Rattle.definition.proofs.UserStep.{ticked, serve-nothing, Entered, Ends, stays, entry, OutcomeEnds, step-ends, entered-supervisor, entry-sets}
+use Rattle.definition.proofs.UserStep.{ticked, serve-nothing, stays, entry, OutcomeEnds, step-ends, entered-supervisor, entry-sets}
 use Rattle.definition.proofs.UserRun.{Within}
 use Rattle.definition.proofs.Writes.{guard-clear}
 
@@ -62,8 +65,8 @@ record Arrives (m w : Machine) : Type 0 where
 
 ends_held : (m : Machine) (e : Ending) (w : Machine) → Arrives m w → Arrives m (arrives (ends e w))
 unfolding ends
-ends_held m (exception k) w a = a
-ends_held m (stop n d) w a = a
+ends_held m (Exception k) w a = a
+ends_held m (Stop n d) w a = a
 
 poll-held : (m w : Machine) → Arrives m w → Arrives m (arrives (poll w))
 unfolding poll

@@ -1,4 +1,17 @@
 -- One walk over all 33 instructions, for any invariant of cells and registers: what holds before `attempt` holds after it.
+use Rattle.std.specs.Prelude.{Err, None, Ok, Option, Result, Some}
+use Rattle.definition.specs.declared.Reg.TheVariants as G
+use Rattle.definition.specs.declared.Op.TheVariants as O
+use Rattle.definition.specs.declared.Executed.{Executed}
+use Rattle.definition.specs.declared.Instruction.{Instruction}
+use Rattle.definition.specs.declared.Missing.{Missing}
+use Rattle.definition.specs.declared.Missing.TheVariants.{NoAddress, OutsideCells}
+use Rattle.definition.specs.declared.Op.{Op}
+use Rattle.definition.specs.declared.Operand.{Operand}
+use Rattle.definition.specs.declared.Operand.TheVariants.{Absent, Dir, Idx, Imm, Ind, Register}
+use Rattle.definition.specs.declared.Reg.{Reg}
+use Rattle.definition.specs.declared.Request.{Request}
+use Rattle.definition.specs.declared.Request.TheVariants.{Nothing}
 use mathlib.Core.Path.{◌≡◌, refl, sym, subst}
 use mathlib.Core.Bool.{Bool, true, false, cond}
 use Prim.Native.Nat.{ℕ, zero, suc, ◌-◌, ◌<◌, ◌≤◌}
@@ -8,29 +21,18 @@ use lib.Dec.{T, ltb, leb, ltb→lt, leb→le}
 use Rattle.definition.specs.declared.Cell.{Cell}
 use Rattle.definition.specs.declared.Registers.{Registers}
 use Rattle.definition.specs.declared.Wrapped.{Wrapped}
-use Rattle.definition.specs.declared.Quotient.{Quotient}
-use Rattle.definition.specs.declared.Quotient.TheVariants.{Rounded, NoQuotient}
 use Rattle.definition.specs.declared.Word.{Word}
 use Rattle.definition.specs.declared.Word.TheVariants.{Is, Empty, NotWord}
-use Rattle.definition.specs.declared.Address.{Address}
-use Rattle.definition.specs.declared.Address.TheVariants.{At, NotAddress}
-use Rattle.definition.specs.declared.Found.{Found}
-use Rattle.definition.specs.declared.Found.TheVariants.{Here, Outside}
-use Rattle.definition.specs.declared.Given.{Given}
-use Rattle.definition.specs.declared.Given.TheVariants.{Gives, OutsideCells, NoAddress}
 use Rattle.definition.specs.declared.Error.{Error}
 use Rattle.definition.specs.declared.Error.TheVariants.{InvalidInstruction, InvalidMemoryAccess, CellError, Extract}
 use Rattle.definition.specs.Constants.{ZERO, NEGATIVE, OVERFLOW}
 use Rattle.definition.specs.Word.{address_of, is_shift}
 use Rattle.definition.specs.Memory.{word, extract_word, as_address, extract_address, cell_count, cell_at, put_cell, found, get}
-use Rattle.definition.specs.Registers as R
-use Rattle.definition.specs.Registers.{Reg, get_reg, Put, assigned, refused, put_reg, put_pc, put_sp, put_sr, put_flag, counted, supervisor, with_a, with_b, with_pc, with_sp, with_sr, with_empties}
-use Rattle.definition.specs.Arguments.{Operand, none, imm, reg, dir, ind, idx, indexed, resolve, resolved, read_there, cell_there, extract_cell}
-use Rattle.definition.specs.Encoding as E
-use Rattle.definition.specs.Encoding.{Op, Extracted, instruction, no_instruction}
-use Rattle.definition.specs.Exec.{Core, with_regs, with_cells, Exec, Res, ok, err, and_then, ◌>>=◌, ◌>>◌, return, raise, branch, ask, change, or_word, take_word, take_address, or_address, or_cell, or_given, or_put, assign, read, permits, write, check_privileged, below, push, pop}
-use Rattle.definition.specs.Instructions.{cell_of, word_of, target_of, register_word, place_of, set_register, and_flags, sign_flags, put_result, put_wrapped, put_compared, put_quotient, put_shifted, words, neg, not_op, jump, jump_if, call, rtn, pop_op, push_op, ld, st, fas, swap_back, swap, rti, reset, Request, nothing, quiet, in_op, out_op, execute}
-use Rattle.definition.specs.Runtime.{or_instruction, fetch, Executed, attempt}
+use Rattle.definition.specs.Registers.{get_reg, Put, assigned, refused, put_reg, put_pc, put_sp, put_sr, put_flag, counted, supervisor, with_a, with_b, with_pc, with_sp, with_sr, with_empties}
+use Rattle.definition.specs.Arguments.{indexed, resolve, resolved, read_there, cell_there, extract_cell}
+use Rattle.definition.specs.Exec.{Core, with_regs, with_cells, Exec, Res, ok, err, and_then, ◌>>=◌, return, raise, branch, ask, change, or_word, take_word, take_address, or_address, or_cell, or_given, or_put, assign, read, permits, write, check_privileged, below, push, pop}
+use Rattle.definition.specs.Instructions.{cell_of, word_of, target_of, register_word, place_of, set_register, and_flags, sign_flags, put_result, put_wrapped, put_compared, put_quotient, put_shifted, words, neg, not_op, jump, jump_if, call, rtn, pop_op, push_op, ld, st, fas, swap_back, swap, rti, reset, quiet, in_op, out_op, execute}
+use Rattle.definition.specs.Runtime.{or_instruction, fetch, attempt}
 use Rattle.definition.specs.Accepted.{Addr}
 use Rattle.definition.proofs.Verdict.{and_left, and_right}
 
@@ -40,7 +42,7 @@ Any v = Unit {0}
 -- I is kept by steps that may write from g on. Cells in reach satisfy Sd, Loud holds where S is set, and what is asked of the console satisfies Q.
 pub record Laws (g : ℕ) (I : Core → Type 0) (Sd : Cell → Type 0) (Loud : Type 0) (Q : Request → Type 0) : Type 0 where
   pub loud : (c : Core) → I c → supervisor c.regs ≡ true → Loud
-  pub quiet_q : Q nothing
+  pub quiet_q : Q Nothing
   pub loud_q : Loud → (q : Request) → Q q
   pub word_s : (w : ℤ) → Sd (word w)
   pub a_sd : (c : Core) → I c → Sd c.regs.a
@@ -60,15 +62,15 @@ pub record Laws (g : ℕ) (I : Core → Type 0) (Sd : Cell → Type 0) (Loud : T
 
 -- ---- addresses
 
-abbrev pub AddressIn : Address → Type 0
-AddressIn (At n) = Addr n
-AddressIn NotAddress = Unit {0}
+abbrev pub AddressIn : Option ℕ → Type 0
+AddressIn (Some n) = Addr n
+AddressIn None = Unit {0}
 
 pub address_of-in : (w : ℤ) → AddressIn (address_of w)
 unfolding address_of
 address_of-in (pos n) = go (leb n 4294967295) refl
   where
-    go : (b : Bool) → leb n 4294967295 ≡ b → AddressIn (cond b (At n) NotAddress)
+    go : (b : Bool) → leb n 4294967295 ≡ b → AddressIn (cond b (Some n) None)
     go true h = let l : n ≤ 4294967295 = leb→le n 4294967295 (subst T (sym h) tt) in omega arith
     go false h = tt
 address_of-in (negsuc n) = tt
@@ -91,12 +93,12 @@ indexed-in NotWord k = tt
 
 resolve-in : (x : Operand) (s : Registers) → AddressIn (resolve x s)
 unfolding resolve
-resolve-in none s = tt
-resolve-in (imm w) s = tt
-resolve-in (reg r) s = tt
-resolve-in (dir w) s = address_of-in w
-resolve-in (ind r) s = extract_address-in _
-resolve-in (idx r k) s = indexed-in _ k
+resolve-in Absent s = tt
+resolve-in (Imm w) s = tt
+resolve-in (Register r) s = tt
+resolve-in (Dir w) s = address_of-in w
+resolve-in (Ind r) s = extract_address-in _
+resolve-in (Idx r k) s = indexed-in _ k
 
 below_in : (n : ℕ) → Addr n → Addr (below n)
 unfolding below
@@ -145,21 +147,21 @@ module _ (g : ℕ) (I : Core → Type 0) (Sd : Cell → Type 0) (Loud : Type 0) 
   good-word Empty e c i = (tt, L.to-empties c i _)
   good-word NotWord e c i = i
 
-  good-address : (a : Address) (e : Error) (c : Core) → AddressIn a → I c → Good I Addr (or_address a e c)
+  good-address : (a : Option ℕ) (e : Error) (c : Core) → AddressIn a → I c → Good I Addr (or_address a e c)
   unfolding or_address
-  good-address (At n) e c h i = (h, i)
-  good-address NotAddress e c h i = i
+  good-address (Some n) e c h i = (h, i)
+  good-address None e c h i = i
 
   -- ---- cells
 
-  abbrev Reaches : (Cell → Type 0) → Found → Type 0
-  Reaches P (Here v) = P v
-  Reaches P Outside = Unit {0}
+  abbrev Reaches : (Cell → Type 0) → Option Cell → Type 0
+  Reaches P (Some v) = P v
+  Reaches P None = Unit {0}
 
-  good-cell : (P : Cell → Type 0) (f : Found) (e : Error) (c : Core) → Reaches P f → I c → Good I P (or_cell f e c)
+  good-cell : (P : Cell → Type 0) (f : Option Cell) (e : Error) (c : Core) → Reaches P f → I c → Good I P (or_cell f e c)
   unfolding or_cell
-  good-cell P (Here v) e c h i = (h, i)
-  good-cell P Outside e c h i = i
+  good-cell P (Some v) e c h i = (h, i)
+  good-cell P None e c h i = i
 
   -- a cell that was read stands at an address that can be stepped over
   get_in : (c : Core) → I c → (n : ℕ) → Reaches (λ (v : Cell). Sd v × (n < 10000)) (get c.cells n)
@@ -183,11 +185,11 @@ module _ (g : ℕ) (I : Core → Type 0) (Sd : Cell → Type 0) (Loud : Type 0) 
 
   reg_in : (r : Reg) (c : Core) → I c → Sd (get_reg r c.regs)
   unfolding get_reg
-  reg_in R.A c i = L.a_sd c i
-  reg_in R.B c i = L.b_sd c i
-  reg_in R.PC c i = L.word_s _
-  reg_in R.SP c i = L.word_s _
-  reg_in R.SR c i = L.word_s _
+  reg_in G.A c i = L.a_sd c i
+  reg_in G.B c i = L.b_sd c i
+  reg_in G.PC c i = L.word_s _
+  reg_in G.SP c i = L.word_s _
+  reg_in G.SR c i = L.word_s _
 
   -- a word taken
   counted-in : (w : Word) (c : Core) → I c → I (with_regs (counted w c.regs) c)
@@ -198,23 +200,23 @@ module _ (g : ℕ) (I : Core → Type 0) (Sd : Cell → Type 0) (Loud : Type 0) 
 
   resolved-in : (x : Operand) (c : Core) → I c → I (with_regs (resolved x c.regs) c)
   unfolding resolved
-  resolved-in none c i = i
-  resolved-in (imm w) c i = i
-  resolved-in (reg r) c i = i
-  resolved-in (dir w) c i = i
-  resolved-in (ind r) c i = counted-in _ c i
-  resolved-in (idx r k) c i = counted-in _ c i
+  resolved-in Absent c i = i
+  resolved-in (Imm w) c i = i
+  resolved-in (Register r) c i = i
+  resolved-in (Dir w) c i = i
+  resolved-in (Ind r) c i = counted-in _ c i
+  resolved-in (Idx r k) c i = counted-in _ c i
 
-  abbrev GivesSd : Given → Type 0
-  GivesSd (Gives v) = Sd v
-  GivesSd OutsideCells = Unit {0}
-  GivesSd NoAddress = Unit {0}
+  abbrev GivesSd : Result Cell Missing → Type 0
+  GivesSd (Ok v) = Sd v
+  GivesSd (Err OutsideCells) = Unit {0}
+  GivesSd (Err NoAddress) = Unit {0}
 
-  good-given : (g : Given) (c : Core) → GivesSd g → I c → Good I Sd (or_given g c)
+  good-given : (g : Result Cell Missing) (c : Core) → GivesSd g → I c → Good I Sd (or_given g c)
   unfolding or_given
-  good-given (Gives v) c h i = (h, i)
-  good-given OutsideCells c h i = i
-  good-given NoAddress c h i = i
+  good-given (Ok v) c h i = (h, i)
+  good-given (Err OutsideCells) c h i = i
+  good-given (Err NoAddress) c h i = i
 
   abbrev Takes : Core → Put → Type 0
   Takes c (assigned s) = I (with_regs s c)
@@ -228,15 +230,15 @@ module _ (g : ℕ) (I : Core → Type 0) (Sd : Cell → Type 0) (Loud : Type 0) 
   k-assign : (f : Registers → Put) → ((c : Core) → I c → Takes c (f c.regs)) → Keeps Any (assign f)
   k-assign f h = record { at = λ c i. good-put (f c.regs) c (h c i) i }
 
-  takes-pc : (c : Core) (s : Registers) → I (with_regs s c) → (a : Address) → AddressIn a → Takes c (put_pc a s)
+  takes-pc : (c : Core) (s : Registers) → I (with_regs s c) → (a : Option ℕ) → AddressIn a → Takes c (put_pc a s)
   unfolding put_pc
-  takes-pc c s i (At n) h = L.to-pc (with_regs s c) i n h
-  takes-pc c s i NotAddress h = tt
+  takes-pc c s i (Some n) h = L.to-pc (with_regs s c) i n h
+  takes-pc c s i None h = tt
 
-  takes-sp : (c : Core) (s : Registers) → I (with_regs s c) → (a : Address) → AddressIn a → Takes c (put_sp a s)
+  takes-sp : (c : Core) (s : Registers) → I (with_regs s c) → (a : Option ℕ) → AddressIn a → Takes c (put_sp a s)
   unfolding put_sp
-  takes-sp c s i (At n) h = L.to-sp (with_regs s c) i n h
-  takes-sp c s i NotAddress h = tt
+  takes-sp c s i (Some n) h = L.to-sp (with_regs s c) i n h
+  takes-sp c s i None h = tt
 
   takes-sr : (c : Core) (s : Registers) → I (with_regs s c) → (b : Bool) → (b ≡ true → Loud) → (w : Word) → Takes c (put_sr b w s)
   unfolding put_sr
@@ -247,11 +249,11 @@ module _ (g : ℕ) (I : Core → Type 0) (Sd : Cell → Type 0) (Loud : Type 0) 
 
   takes : (r : Reg) (v : Cell) → Sd v → (c : Core) → I c → Takes c (put_reg r v c.regs)
   unfolding put_reg
-  takes R.A v h c i = L.to-a c i v h
-  takes R.B v h c i = L.to-b c i v h
-  takes R.PC v h c i = takes-pc c _ (counted-in (extract_word v) c i) _ (extract_address-in v)
-  takes R.SP v h c i = takes-sp c _ (counted-in (extract_word v) c i) _ (extract_address-in v)
-  takes R.SR v h c i = takes-sr c _ (counted-in (extract_word v) c i) (supervisor c.regs) (L.loud c i) _
+  takes G.A v h c i = L.to-a c i v h
+  takes G.B v h c i = L.to-b c i v h
+  takes G.PC v h c i = takes-pc c _ (counted-in (extract_word v) c i) _ (extract_address-in v)
+  takes G.SP v h c i = takes-sp c _ (counted-in (extract_word v) c i) _ (extract_address-in v)
+  takes G.SR v h c i = takes-sr c _ (counted-in (extract_word v) c i) (supervisor c.regs) (L.loud c i) _
 
   pub k-set : (r : Reg) (v : Cell) → Sd v → Keeps Any (set_register r v)
   k-set r v h = k-assign (put_reg r v) (takes r v h)
@@ -286,10 +288,10 @@ module _ (g : ℕ) (I : Core → Type 0) (Sd : Cell → Type 0) (Loud : Type 0) 
   takes-compared v w c i =
       L.to-flag (with_regs (put_flag ZERO _ c.regs) c) (L.to-flag c i ZERO (omega arith) _) NEGATIVE (omega arith) _
 
-  takes-quotient : (r : Reg) (q : Quotient) (c : Core) → I c → Takes c (put_quotient r q c.regs)
+  takes-quotient : (r : Reg) (q : Option ℤ) (c : Core) → I c → Takes c (put_quotient r q c.regs)
   unfolding put_quotient
-  takes-quotient r (Rounded q) c i = takes-result r q c i
-  takes-quotient r NoQuotient c i = tt
+  takes-quotient r (Some q) c i = takes-result r q c i
+  takes-quotient r None c i = tt
 
   takes-shifted : (f : ℤ → ℕ → ℤ) (r : Reg) (v w : ℤ) (c : Core) → I c → Takes c (put_shifted f r v w c.regs)
   unfolding put_shifted
@@ -301,23 +303,23 @@ module _ (g : ℕ) (I : Core → Type 0) (Sd : Cell → Type 0) (Loud : Type 0) 
 
   -- ---- operands
 
-  there-in : (c : Core) → I c → (a : Address) → GivesSd (cell_there a c.cells)
+  there-in : (c : Core) → I c → (a : Option ℕ) → GivesSd (cell_there a c.cells)
   unfolding cell_there read_there
-  there-in c i (At n) = weak (get c.cells n) (get_in c i n)
+  there-in c i (Some n) = weak (get c.cells n) (get_in c i n)
     where
-      weak : (f : Found) → Reaches (λ (v : Cell). Sd v × (n < 10000)) f → GivesSd (read_there f)
-      weak (Here v) h = h.0
-      weak Outside h = tt
-  there-in c i NotAddress = tt
+      weak : (f : Option Cell) → Reaches (λ (v : Cell). Sd v × (n < 10000)) f → GivesSd (read_there f)
+      weak (Some v) h = h.0
+      weak None h = tt
+  there-in c i None = tt
 
   cell_in : (x : Operand) (c : Core) → I c → GivesSd (extract_cell x c.cells c.regs)
   unfolding extract_cell
-  cell_in none c i = tt
-  cell_in (imm w) c i = L.word_s w
-  cell_in (reg r) c i = reg_in r c i
-  cell_in (dir w) c i = there-in c i _
-  cell_in (ind r) c i = there-in c i _
-  cell_in (idx r k) c i = there-in c i _
+  cell_in Absent c i = tt
+  cell_in (Imm w) c i = L.word_s w
+  cell_in (Register r) c i = reg_in r c i
+  cell_in (Dir w) c i = there-in c i _
+  cell_in (Ind r) c i = there-in c i _
+  cell_in (Idx r k) c i = there-in c i _
 
   k-cell : (x : Operand) → Keeps Sd (cell_of x)
   k-cell x = record { at = λ c i. good-given (extract_cell x c.cells c.regs) _ (cell_in x c i) (resolved-in x c i) }
@@ -410,12 +412,12 @@ module _ (g : ℕ) (I : Core → Type 0) (Sd : Cell → Type 0) (Loud : Type 0) 
 
   k-swap_back : (x : Operand) (v : Cell) → Sd v → Keeps Any (swap_back g x v)
   unfolding swap_back
-  k-swap_back none v s = raises
-  k-swap_back (imm w) v s = raises
-  k-swap_back (reg r) v s = k-set r v s
-  k-swap_back (dir w) v s = k-store _ v s
-  k-swap_back (ind r) v s = k-store _ v s
-  k-swap_back (idx r k) v s = k-store _ v s
+  k-swap_back Absent v s = raises
+  k-swap_back (Imm w) v s = raises
+  k-swap_back (Register r) v s = k-set r v s
+  k-swap_back (Dir w) v s = k-store _ v s
+  k-swap_back (Ind r) v s = k-store _ v s
+  k-swap_back (Idx r k) v s = k-store _ v s
 
   k-swap : (x : Operand) (r : Reg) → Keeps Any (swap g x r)
   unfolding swap
@@ -447,44 +449,44 @@ module _ (g : ℕ) (I : Core → Type 0) (Sd : Cell → Type 0) (Loud : Type 0) 
 
   k-execute : (o : Op) (x y : Operand) (r₁ r₂ : Reg) → Keeps Q (execute g o x y r₁ r₂)
   unfolding execute
-  k-execute E.ADD x y r₁ r₂ = k-quiet (k-words x r₂ _ (λ v w. takes-wrapped r₂ _))
-  k-execute E.AND x y r₁ r₂ = k-quiet (k-words x r₂ _ (λ v w. takes-result r₂ _))
-  k-execute E.CALL x y r₁ r₂ = k-quiet (k-call x)
-  k-execute E.CMP x y r₁ r₂ = k-quiet (k-words x r₂ _ takes-compared)
-  k-execute E.DIV x y r₁ r₂ = k-quiet (k-words x r₂ _ (λ v w. takes-quotient r₂ _))
-  k-execute E.FAS x y r₁ r₂ = k-quiet (k-fas x r₂)
-  k-execute E.IN x y r₁ r₂ = k-in x r₂
-  k-execute E.JMP x y r₁ r₂ = k-quiet (k-jump x)
-  k-execute E.JEQ x y r₁ r₂ = k-quiet (k-jump_if _ x)
-  k-execute E.JNE x y r₁ r₂ = k-quiet (k-jump_if _ x)
-  k-execute E.JLE x y r₁ r₂ = k-quiet (k-jump_if _ x)
-  k-execute E.JLT x y r₁ r₂ = k-quiet (k-jump_if _ x)
-  k-execute E.JGE x y r₁ r₂ = k-quiet (k-jump_if _ x)
-  k-execute E.JGT x y r₁ r₂ = k-quiet (k-jump_if _ x)
-  k-execute E.LD x y r₁ r₂ = k-quiet (k-ld x r₂)
-  k-execute E.MUL x y r₁ r₂ = k-quiet (k-words x r₂ _ (λ v w. takes-wrapped r₂ _))
-  k-execute E.NEG x y r₁ r₂ = k-quiet (k-neg r₁)
-  k-execute E.NOP x y r₁ r₂ = k-quiet (pure tt)
-  k-execute E.NOT x y r₁ r₂ = k-quiet (k-not r₁)
-  k-execute E.OR x y r₁ r₂ = k-quiet (k-words x r₂ _ (λ v w. takes-result r₂ _))
-  k-execute E.OUT x y r₁ r₂ = k-out x y
-  k-execute E.POP x y r₁ r₂ = k-quiet (k-pop_op r₁)
-  k-execute E.PUSH x y r₁ r₂ = k-quiet (k-push_op x)
-  k-execute E.RESET x y r₁ r₂ = k-quiet k-reset
-  k-execute E.RTI x y r₁ r₂ = k-quiet k-rti
-  k-execute E.RTN x y r₁ r₂ = k-quiet k-rtn
-  k-execute E.SHL x y r₁ r₂ = k-quiet (k-words x r₂ _ (takes-shifted _ r₂))
-  k-execute E.SHR x y r₁ r₂ = k-quiet (k-words x r₂ _ (takes-shifted _ r₂))
-  k-execute E.ST x y r₁ r₂ = k-quiet (k-st r₁ y)
-  k-execute E.SUB x y r₁ r₂ = k-quiet (k-words x r₂ _ (λ v w. takes-wrapped r₂ _))
-  k-execute E.SWAP x y r₁ r₂ = k-quiet (k-swap x r₂)
-  k-execute E.TRAP x y r₁ r₂ = k-quiet raises
-  k-execute E.XOR x y r₁ r₂ = k-quiet (k-words x r₂ _ (λ v w. takes-result r₂ _))
+  k-execute O.Add x y r₁ r₂ = k-quiet (k-words x r₂ _ (λ v w. takes-wrapped r₂ _))
+  k-execute O.And x y r₁ r₂ = k-quiet (k-words x r₂ _ (λ v w. takes-result r₂ _))
+  k-execute O.Call x y r₁ r₂ = k-quiet (k-call x)
+  k-execute O.Cmp x y r₁ r₂ = k-quiet (k-words x r₂ _ takes-compared)
+  k-execute O.Div x y r₁ r₂ = k-quiet (k-words x r₂ _ (λ v w. takes-quotient r₂ _))
+  k-execute O.Fas x y r₁ r₂ = k-quiet (k-fas x r₂)
+  k-execute O.In x y r₁ r₂ = k-in x r₂
+  k-execute O.Jmp x y r₁ r₂ = k-quiet (k-jump x)
+  k-execute O.Jeq x y r₁ r₂ = k-quiet (k-jump_if _ x)
+  k-execute O.Jne x y r₁ r₂ = k-quiet (k-jump_if _ x)
+  k-execute O.Jle x y r₁ r₂ = k-quiet (k-jump_if _ x)
+  k-execute O.Jlt x y r₁ r₂ = k-quiet (k-jump_if _ x)
+  k-execute O.Jge x y r₁ r₂ = k-quiet (k-jump_if _ x)
+  k-execute O.Jgt x y r₁ r₂ = k-quiet (k-jump_if _ x)
+  k-execute O.Ld x y r₁ r₂ = k-quiet (k-ld x r₂)
+  k-execute O.Mul x y r₁ r₂ = k-quiet (k-words x r₂ _ (λ v w. takes-wrapped r₂ _))
+  k-execute O.Neg x y r₁ r₂ = k-quiet (k-neg r₁)
+  k-execute O.Nop x y r₁ r₂ = k-quiet (pure tt)
+  k-execute O.Not x y r₁ r₂ = k-quiet (k-not r₁)
+  k-execute O.Or x y r₁ r₂ = k-quiet (k-words x r₂ _ (λ v w. takes-result r₂ _))
+  k-execute O.Out x y r₁ r₂ = k-out x y
+  k-execute O.Pop x y r₁ r₂ = k-quiet (k-pop_op r₁)
+  k-execute O.Push x y r₁ r₂ = k-quiet (k-push_op x)
+  k-execute O.Reset x y r₁ r₂ = k-quiet k-reset
+  k-execute O.Rti x y r₁ r₂ = k-quiet k-rti
+  k-execute O.Rtn x y r₁ r₂ = k-quiet k-rtn
+  k-execute O.Shl x y r₁ r₂ = k-quiet (k-words x r₂ _ (takes-shifted _ r₂))
+  k-execute O.Shr x y r₁ r₂ = k-quiet (k-words x r₂ _ (takes-shifted _ r₂))
+  k-execute O.St x y r₁ r₂ = k-quiet (k-st r₁ y)
+  k-execute O.Sub x y r₁ r₂ = k-quiet (k-words x r₂ _ (λ v w. takes-wrapped r₂ _))
+  k-execute O.Swap x y r₁ r₂ = k-quiet (k-swap x r₂)
+  k-execute O.Trap x y r₁ r₂ = k-quiet raises
+  k-execute O.Xor x y r₁ r₂ = k-quiet (k-words x r₂ _ (λ v w. takes-result r₂ _))
 
-  k-instruction : (t : Extracted) → Keeps Any (or_instruction t)
+  k-instruction : (t : Option Instruction) → Keeps Any (or_instruction t)
   unfolding or_instruction
-  k-instruction (instruction i) = pure tt
-  k-instruction no_instruction = raises
+  k-instruction (Some i) = pure tt
+  k-instruction None = raises
 
   k-fetch : Keeps Any fetch
   unfolding fetch

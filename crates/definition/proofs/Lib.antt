@@ -5,6 +5,7 @@ pub mod Encoding
 pub mod Course
 pub mod Cells
 pub mod Verdict
+pub mod Checked
 pub mod Ticks
 pub mod Keeps
 pub mod AcceptedCore

@@ -1,4 +1,5 @@
 -- What the tests of a call of run say of the machine, and that a machine survives its row.
+use Rattle.std.specs.Prelude.{None, Some}
 use mathlib.Core.Path.{◌≡◌, refl, sym, ap, ◌∙◌}
 use mathlib.Core.Bool.{Bool, true, false, cond, true≢false, ◌&&◌, ◌||◌}
 use mathlib.Core.List.{List, [], ◌∷◌, ◌++◌}
@@ -9,7 +10,6 @@ use lib.ListN.{length, get_or, drop, drop_of_length-le}
 use lib.Seq.{drop-cons}
 use lib.Dec.{leb, eqb}
 use borrow.Author.Tests.{ltb-true, leb-true, eqb-true, lt-ltb, le-leb, eq-eqb, ne_eqb}
-use Rattle.definition.specs.declared.Address.TheVariants.{At, NotAddress}
 use Rattle.definition.specs.Constants.{CELLS-LEAST, CELLS-MOST, QUEUE-MOST, OUTPUT-MOST, CYCLES-END, ROW, ROW-PC, ROW-SP, ROW-SR, ROW-CYCLES, ROW-ENABLE, ROW-FLAG, ROW-PENDING, ROW-START, ROW-COUNT, ROW-WRITTEN, ROW-FENCE, ROW-INTERVAL, ROW-REMAINING, ROW-MARK}
 use Rattle.definition.specs.Word.{eq_z, address_of}
 use Rattle.definition.specs.Memory.{cell, cell_count, cell_at}
@@ -17,9 +17,9 @@ use Rattle.definition.specs.Registers.{with_empties}
 use Rattle.definition.specs.Encoding.{sound, is_address}
 use Rattle.definition.specs.Io.{marked}
 use Rattle.definition.specs.Timer.{timed}
-use Rattle.definition.specs.Exec.{core, with_regs}
+use Rattle.definition.specs.Exec.{with_regs}
 use Rattle.definition.specs.Runtime.{Machine, machine}
-use Rattle.definition.specs.Calls.{at, number_of_row, mark, machine_of, row_of, Test, accepted, passes, is_below, is_mark, lowest_damaged, cells_test, queue_test, output_test, length_test, row_tests, damage_test, Lent, lent, lent_machine, lent_of, run_check}
+use Rattle.definition.specs.Calls.{at, number_of_row, mark, machine_of, row_of, Test, passes, is_below, is_mark, lowest_damaged, cells_test, queue_test, output_test, length_test, row_tests, damage_test, Lent, lent, lent_machine, lent_of, run_check}
 use Rattle.definition.specs.UserMode.{Accepted}
 use Rattle.definition.specs.Accepted.{Addr, Sound, Below, IsMark, RowFits, CellsFit, QueueFits, RunPassed, AcceptedMachine}
 use Rattle.definition.proofs.Verdict.{and_left, and_right, and_both, Passes, ◌&◌, passed-at, passes-left, passes-right, numbered, verdict-passes, passes-verdict}
@@ -87,14 +87,14 @@ pub address-in : (z : ℤ) → is_address (address_of z) ≡ true → Below (2 ^
 unfolding is_address address_of
 address-in (pos n) h = (refl, go (leb n 4294967295) refl h)
   where
-    go : (b : Bool) → leb n 4294967295 ≡ b → is_address (cond b (At n) NotAddress) ≡ true → n < 2 ^ 32
+    go : (b : Bool) → leb n 4294967295 ≡ b → is_address (cond b (Some n) None) ≡ true → n < 2 ^ 32
     go true e k = omega (arith, leb-true n 4294967295 e)
     go false e k = absurd (true≢false (sym k))
 address-in (negsuc n) h = absurd (true≢false (sym h))
 
 pub address_is : (n : ℕ) → Addr n → is_address (address_of (pos n)) ≡ true
 unfolding is_address address_of
-address_is n h = ap (λ (b : Bool). is_address (cond b (At n) NotAddress)) (le-leb n 4294967295 (omega arith))
+address_is n h = ap (λ (b : Bool). is_address (cond b (Some n) None)) (le-leb n 4294967295 (omega arith))
 
 mark-in : (z : ℤ) → is_mark z ≡ true → IsMark z
 unfolding is_mark

@@ -1,6 +1,6 @@
 -- A run whose steps are all begun with S clear: it is the same run in every console, and ends in user mode or with exception entry.
 use mathlib.Core.Path.{◌≡◌, refl, sym, ap, ◌∙◌, subst}
-use mathlib.Core.Bool.{true, false, true≢false}
+use mathlib.Core.Bool.{false, true≢false}
 use Prim.Native.Nat.{ℕ, zero, suc, ◌+◌, ◌<◌}
 use native.Mathlib.Omega.{arith}
 use Rattle.definition.specs.Total.{total}

@@ -1,8 +1,12 @@
 -- A step begun with S clear: in another console it does the same, and leaves that console but for the pending mark.
+use Rattle.definition.specs.declared.Ending.{Ending}
+use Rattle.definition.specs.declared.Ending.TheVariants.{Exception, Stop}
+use Rattle.definition.specs.declared.Executed.{Executed}
+use Rattle.definition.specs.declared.Request.{Request}
 use mathlib.Core.Path.{◌≡◌, refl, sym, ap, ◌∙◌, subst}
 use mathlib.Core.Bool.{Bool, true, false, cond, ◌&&◌}
 use mathlib.Core.List.{List}
-use Prim.Native.Nat.{ℕ, zero, suc, ◌+◌, ◌≤◌}
+use Prim.Native.Nat.{ℕ, zero, suc, ◌≤◌}
 use native.Mathlib.Omega.{arith}
 use lib.IntN.{ℤ, pos}
 use lib.Dec.{ltb}
@@ -10,14 +14,13 @@ use Rattle.definition.specs.declared.Error.{Error}
 use Rattle.definition.specs.declared.Error.TheVariants.{DivByZero, InvalidInstruction, PrivilegedInstruction, Trap, InvalidMemoryAccess, CellError, Extract, InvalidPc, InvalidSp, InvalidSr, Reset}
 use Rattle.definition.specs.Constants.{SUPERVISOR, CYCLES-END}
 use Rattle.definition.specs.Word.{bit, put_bit}
-use Rattle.definition.specs.Exception.{Ending, exception, stop, ending, HARDWARE-INTERRUPT, NO-HANDLER, CYCLES-FULL}
+use Rattle.definition.specs.Exception.{ending, HARDWARE-INTERRUPT, NO-HANDLER, CYCLES-FULL}
 use Rattle.definition.specs.Memory.{word, cell_count, cell_at}
 use Rattle.definition.specs.Registers.{supervisor, interrupt_enable}
 use Rattle.definition.specs.Io.{Console, with_marks, with_pending}
-use Rattle.definition.specs.Timer.{with_timer_mark, tick, tick_entry}
+use Rattle.definition.specs.Timer.{with_timer_mark, tick}
 use Rattle.definition.specs.Exec.{Core, with_cells, Res, ok, err}
-use Rattle.definition.specs.Instructions.{Request, nothing}
-use Rattle.definition.specs.Runtime.{Machine, with_core, with_cycles, with_console, with_timer, with_mark, executed, Executed, attempt, Turn, completes, enters, stops, ends, poll, conclude, serve, after_attempt, guard, turn, Outcome, completed, stopped, has_handler, saved, entered_sr, entered_registers, entered_core, entered, recover, elapsed, elapses, settle, reached, limit, step}
+use Rattle.definition.specs.Runtime.{Machine, with_core, with_console, with_timer, with_mark, executed, attempt, Turn, completes, enters, stops, ends, poll, conclude, serve, after_attempt, guard, turn, Outcome, completed, stopped, has_handler, saved, entered_sr, entered_registers, entered_core, entered, recover, elapsed, elapses, settle, reached, limit, step}
 use Rattle.definition.specs.Accepted.{Sound, AcceptedCore}
 use Rattle.definition.proofs.Bits.{put_same, put_other}
 use Rattle.definition.proofs.Cells.{count-put, cell_same, cell_other}
@@ -54,8 +57,8 @@ attempt-user g f = attempt-keeps g (User f) Sound ⊥ Silent (user-laws g f)
 
 ends_is : (k : Console) (e : Ending) (m : Machine) → ends e (around k m) ≡ turn_around k (ends e m)
 unfolding ends
-ends_is k (exception n) m = refl
-ends_is k (stop n d) m = refl
+ends_is k (Exception n) m = refl
+ends_is k (Stop n d) m = refl
 
 poll-is : (k : Console) (m : Machine) → poll (around k m) ≡ turn_around k (poll m)
 unfolding poll

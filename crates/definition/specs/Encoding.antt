@@ -1,24 +1,21 @@
 -- "Cells and row": the tag of an instruction, the 124 legal forms, the costs, and what is damaged.
-use Rattle.std.specs.Prelude.{◌≡◌, Bool, true, false, cond, ◌&&◌, ◌||◌, List, [], ◌∷◌, ℕ, zero, suc, ◌+◌, ◌*◌, ◌/◌, ◌%◌, ◌<◌, ℤ, pos, negsuc, get_or, ltb, leb, eqb}
+use Rattle.std.specs.Prelude.{◌≡◌, Bool, true, false, cond, ◌&&◌, ◌||◌, List, [], ◌∷◌, ℕ, zero, suc, ◌+◌, ◌*◌, ◌/◌, ◌%◌, ◌<◌, ℤ, pos, negsuc, get_or, ltb, leb, eqb, None, Option, Some}
+use Rattle.definition.specs.declared.Op.{Op}
+use Rattle.definition.specs.declared.Op.TheVariants as O
+use Rattle.definition.specs.declared.Instruction.{Instruction}
 use Rattle.definition.specs.declared.Cell.{Cell}
-use Rattle.definition.specs.declared.Address.{Address}
-use Rattle.definition.specs.declared.Address.TheVariants.{At, NotAddress}
 use Rattle.definition.specs.Word.{eq_z, address_of, digit}
-use Rattle.definition.specs.Memory.{cell}
-use Rattle.definition.specs.Registers.{Reg, reg_at}
-use Rattle.definition.specs.Arguments.{Operand, operand, mode_cost}
+use Rattle.definition.specs.Registers.{reg_at}
+use Rattle.definition.specs.Arguments.{operand, mode_cost}
 
 -- "op is 0 to 32 in the order of `Instruction`"
-pub data Op : Type 0 where
-  ADD AND CALL CMP DIV FAS IN JMP JEQ JNE JLE JLT JGE JGT LD MUL NEG NOP NOT OR OUT POP PUSH RESET RTI RTN SHL SHR ST SUB SWAP TRAP XOR : Op
-
 abbrev pub ops : List Op
 ops =
-    ADD ∷ AND ∷ CALL ∷ CMP ∷ DIV ∷ FAS ∷ IN ∷ JMP ∷ JEQ ∷ JNE ∷ JLE ∷ JLT ∷ JGE ∷ JGT ∷ LD ∷ MUL ∷ NEG ∷ NOP ∷ NOT ∷ OR ∷ OUT ∷ POP ∷ PUSH ∷ RESET ∷ RTI ∷ RTN ∷ SHL ∷ SHR ∷ ST ∷ SUB ∷ SWAP ∷ TRAP ∷ XOR ∷ []
+    O.Add ∷ O.And ∷ O.Call ∷ O.Cmp ∷ O.Div ∷ O.Fas ∷ O.In ∷ O.Jmp ∷ O.Jeq ∷ O.Jne ∷ O.Jle ∷ O.Jlt ∷ O.Jge ∷ O.Jgt ∷ O.Ld ∷ O.Mul ∷ O.Neg ∷ O.Nop ∷ O.Not ∷ O.Or ∷ O.Out ∷ O.Pop ∷ O.Push ∷ O.Reset ∷ O.Rti ∷ O.Rtn ∷ O.Shl ∷ O.Shr ∷ O.St ∷ O.Sub ∷ O.Swap ∷ O.Trap ∷ O.Xor ∷ []
 
 -- The operation of a number; a damaged cell may have one past the last, which is taken for trap.
 unfoldable pub op_at : ℕ → Op
-op_at n = get_or ops n TRAP
+op_at n = get_or ops n O.Trap
 
 -- The modes that a type of operand of arguments.rs allows.
 pub data Kind : Type 0 where
@@ -41,39 +38,39 @@ abbrev takes : Kind → Kind → Signature
 takes x y = record { first = x; second = y }
 
 unfoldable pub signature : Op → Signature
-signature ADD = takes ImmRegDirIndIdx JustReg
-signature AND = takes ImmRegDirIndIdx JustReg
-signature CALL = takes ImmRegDirIndIdx NoOperand
-signature CMP = takes ImmRegDirIndIdx JustReg
-signature DIV = takes ImmRegDirIndIdx JustReg
-signature FAS = takes DirIndIdx JustReg
-signature IN = takes DirIndIdx JustReg
-signature JMP = takes ImmRegDirIndIdx NoOperand
-signature JEQ = takes ImmRegDirIndIdx NoOperand
-signature JNE = takes ImmRegDirIndIdx NoOperand
-signature JLE = takes ImmRegDirIndIdx NoOperand
-signature JLT = takes ImmRegDirIndIdx NoOperand
-signature JGE = takes ImmRegDirIndIdx NoOperand
-signature JGT = takes ImmRegDirIndIdx NoOperand
-signature LD = takes ImmRegDirIndIdx JustReg
-signature MUL = takes ImmRegDirIndIdx JustReg
-signature NEG = takes JustReg NoOperand
-signature NOP = takes NoOperand NoOperand
-signature NOT = takes JustReg NoOperand
-signature OR = takes ImmRegDirIndIdx JustReg
-signature OUT = takes ImmReg DirIndIdx
-signature POP = takes JustReg NoOperand
-signature PUSH = takes ImmReg NoOperand
-signature RESET = takes NoOperand NoOperand
-signature RTI = takes NoOperand NoOperand
-signature RTN = takes NoOperand NoOperand
-signature SHL = takes ImmRegDirIndIdx JustReg
-signature SHR = takes ImmRegDirIndIdx JustReg
-signature ST = takes JustReg DirIndIdx
-signature SUB = takes ImmRegDirIndIdx JustReg
-signature SWAP = takes RegDirIndIdx JustReg
-signature TRAP = takes NoOperand NoOperand
-signature XOR = takes ImmRegDirIndIdx JustReg
+signature O.Add = takes ImmRegDirIndIdx JustReg
+signature O.And = takes ImmRegDirIndIdx JustReg
+signature O.Call = takes ImmRegDirIndIdx NoOperand
+signature O.Cmp = takes ImmRegDirIndIdx JustReg
+signature O.Div = takes ImmRegDirIndIdx JustReg
+signature O.Fas = takes DirIndIdx JustReg
+signature O.In = takes DirIndIdx JustReg
+signature O.Jmp = takes ImmRegDirIndIdx NoOperand
+signature O.Jeq = takes ImmRegDirIndIdx NoOperand
+signature O.Jne = takes ImmRegDirIndIdx NoOperand
+signature O.Jle = takes ImmRegDirIndIdx NoOperand
+signature O.Jlt = takes ImmRegDirIndIdx NoOperand
+signature O.Jge = takes ImmRegDirIndIdx NoOperand
+signature O.Jgt = takes ImmRegDirIndIdx NoOperand
+signature O.Ld = takes ImmRegDirIndIdx JustReg
+signature O.Mul = takes ImmRegDirIndIdx JustReg
+signature O.Neg = takes JustReg NoOperand
+signature O.Nop = takes NoOperand NoOperand
+signature O.Not = takes JustReg NoOperand
+signature O.Or = takes ImmRegDirIndIdx JustReg
+signature O.Out = takes ImmReg DirIndIdx
+signature O.Pop = takes JustReg NoOperand
+signature O.Push = takes ImmReg NoOperand
+signature O.Reset = takes NoOperand NoOperand
+signature O.Rti = takes NoOperand NoOperand
+signature O.Rtn = takes NoOperand NoOperand
+signature O.Shl = takes ImmRegDirIndIdx JustReg
+signature O.Shr = takes ImmRegDirIndIdx JustReg
+signature O.St = takes JustReg DirIndIdx
+signature O.Sub = takes ImmRegDirIndIdx JustReg
+signature O.Swap = takes RegDirIndIdx JustReg
+signature O.Trap = takes NoOperand NoOperand
+signature O.Xor = takes ImmRegDirIndIdx JustReg
 
 -- Is this op, m1 and m2 an instruction?
 unfoldable pub legal : ℕ → ℕ → ℕ → Bool
@@ -131,40 +128,27 @@ pub record TagLaws : Type 0 where
   pub modes_below : (t : ℕ) → (mode₁ t < 6) × (mode₂ t < 6)
   pub registers_below : (t : ℕ) → (reg₁ t < 5) × (reg₂ t < 5)
 
--- An instruction as it is executed: its operands, the registers that its tag names, and its cost.
-pub record Instruction : Type 0 where
-  pub op : Op
-  pub x : Operand
-  pub y : Operand
-  pub r₁ : Reg
-  pub r₂ : Reg
-  pub cycles : ℕ
-
 unfoldable pub decode : ℕ → ℤ → ℤ → Instruction
 decode t f s =
-    record { op = op_at (op_number t); x = operand (mode₁ t) (reg₁ t) f; y = operand (mode₂ t) (reg₂ t) s; r₁ = reg_at (reg₁ t); r₂ = reg_at (reg₂ t); cycles = cost (op_number t) (mode₁ t) (mode₂ t) }
+    record { op = op_at (op_number t); x = operand (mode₁ t) (reg₁ t) f; y = operand (mode₂ t) (reg₂ t) s; r1 = reg_at (reg₁ t); r2 = reg_at (reg₂ t); cycles = cost (op_number t) (mode₁ t) (mode₂ t) }
 
 -- Cell::extract_instruction
-pub data Extracted : Type 0 where
-  instruction : Instruction → Extracted
-  no_instruction : Extracted
+unfoldable pub instruction_at : ℤ → ℤ → ℤ → Option Instruction
+instruction_at (pos zero) f s = None
+instruction_at (pos (suc zero)) f s = None
+instruction_at (pos (suc (suc t))) f s = Some (decode t f s)
+instruction_at (negsuc n) f s = None
 
-unfoldable pub instruction_at : ℤ → ℤ → ℤ → Extracted
-instruction_at (pos zero) f s = no_instruction
-instruction_at (pos (suc zero)) f s = no_instruction
-instruction_at (pos (suc (suc t))) f s = instruction (decode t f s)
-instruction_at (negsuc n) f s = no_instruction
-
-unfoldable pub extract_instruction : Cell → Extracted
+unfoldable pub extract_instruction : Cell → Option Instruction
 extract_instruction v = instruction_at v.tag v.first v.second
 
 -- "r is 0 where the mode has no register"
 unfoldable pub register_fits : ℕ → ℕ → Bool
 register_fits m r = eqb r 0 || (eqb m 2 || leb 4 m)
 
-unfoldable pub is_address : Address → Bool
-is_address (At n) = true
-is_address NotAddress = false
+unfoldable pub is_address : Option ℕ → Bool
+is_address (Some n) = true
+is_address None = false
 
 -- "First and second hold the operands' numbers, 0 where the mode has none; a direct one is an address."
 unfoldable pub number_fits : ℕ → ℤ → Bool

@@ -1,5 +1,7 @@
 -- exception.rs, and "Stops": what an error ends a step with.
 use Rattle.std.specs.Prelude.{ℕ}
+use Rattle.definition.specs.declared.Ending.{Ending}
+use Rattle.definition.specs.declared.Ending.TheVariants.{Exception, Stop}
 use Rattle.definition.specs.declared.Error.{Error}
 use Rattle.definition.specs.declared.Error.TheVariants.{DivByZero, InvalidInstruction, PrivilegedInstruction, Trap, InvalidMemoryAccess, CellError, Extract, InvalidPc, InvalidSp, InvalidSr, Reset}
 
@@ -33,21 +35,16 @@ OUTPUT-FULL = 6
 abbrev pub CYCLES-FULL : ℕ
 CYCLES-FULL = 7
 
--- Exception entry with a code, or a stop with its number and detail.
-pub data Ending : Type 0 where
-  exception : ℕ → Ending
-  stop : ℕ → ℕ → Ending
-
 -- Document 01's number and values for each case of `Error`.
 unfoldable pub ending : Error → Ending
-ending DivByZero = exception 1
-ending InvalidInstruction = exception 2
-ending PrivilegedInstruction = exception 3
-ending Trap = exception 4
-ending InvalidMemoryAccess = exception 5
-ending Reset = stop RESET 0
-ending CellError = stop CELL-ERROR 0
-ending Extract = stop EXTRACT 0
-ending InvalidPc = stop INVALID-REGISTER 2
-ending InvalidSp = stop INVALID-REGISTER 3
-ending InvalidSr = stop INVALID-REGISTER 4
+ending DivByZero = Exception 1
+ending InvalidInstruction = Exception 2
+ending PrivilegedInstruction = Exception 3
+ending Trap = Exception 4
+ending InvalidMemoryAccess = Exception 5
+ending Reset = Stop RESET 0
+ending CellError = Stop CELL-ERROR 0
+ending Extract = Stop EXTRACT 0
+ending InvalidPc = Stop INVALID-REGISTER 2
+ending InvalidSp = Stop INVALID-REGISTER 3
+ending InvalidSr = Stop INVALID-REGISTER 4

@@ -1,16 +1,12 @@
 -- What an instruction works on, and how it fails. "`Result` and `?`: enums."
 -- The console is not in reach here: an instruction can only ask for it (`Request` in Instructions), so none can look at it.
-use Rattle.std.specs.Prelude.{Bool, true, false, ◌&&◌, List, ℕ, zero, suc, ℤ, pos, ltb, leb}
+use Rattle.std.specs.Prelude.{Bool, true, false, ◌&&◌, List, ℕ, zero, suc, ℤ, pos, ltb, leb, Err, None, Ok, Option, Result, Some}
+use Rattle.definition.specs.declared.Missing.{Missing}
+use Rattle.definition.specs.declared.Missing.TheVariants.{NoAddress, OutsideCells}
 use Rattle.definition.specs.declared.Cell.{Cell}
 use Rattle.definition.specs.declared.Registers.{Registers}
 use Rattle.definition.specs.declared.Word.{Word}
 use Rattle.definition.specs.declared.Word.TheVariants.{Is, Empty, NotWord}
-use Rattle.definition.specs.declared.Address.{Address}
-use Rattle.definition.specs.declared.Address.TheVariants.{At, NotAddress}
-use Rattle.definition.specs.declared.Found.{Found}
-use Rattle.definition.specs.declared.Found.TheVariants.{Here, Outside}
-use Rattle.definition.specs.declared.Given.{Given}
-use Rattle.definition.specs.declared.Given.TheVariants.{Gives, OutsideCells, NoAddress}
 use Rattle.definition.specs.declared.Error.{Error}
 use Rattle.definition.specs.declared.Error.TheVariants.{PrivilegedInstruction, InvalidMemoryAccess, Extract}
 use Rattle.definition.specs.Word.{address_of}
@@ -76,9 +72,9 @@ or_word (Is w) e = return w
 or_word Empty e = λ c. ok (pos 0) (with_regs (counted Empty c.regs) c)
 or_word NotWord e = raise e
 
-unfoldable pub or_address : Address → Error → Exec ℕ
-or_address (At n) e = return n
-or_address NotAddress e = raise e
+unfoldable pub or_address : Option ℕ → Error → Exec ℕ
+or_address (Some n) e = return n
+or_address None e = raise e
 
 -- Cell::extract_word and Cell::extract_address: a cell's word or address, or the error.
 abbrev pub take_word : Cell → Error → Exec ℤ
@@ -89,15 +85,18 @@ take_address v e = do
   w ← take_word v e
   or_address (address_of w) e
 
-unfoldable pub or_cell : Found → Error → Exec Cell
-or_cell (Here v) e = return v
-or_cell Outside e = raise e
+unfoldable pub or_cell : Option Cell → Error → Exec Cell
+or_cell (Some v) e = return v
+or_cell None e = raise e
 
 -- "An operand read at an address not below the count of cells raises code 5"; "any other operand [...] that cannot be taken is stop 4".
-unfoldable pub or_given : Given → Exec Cell
-or_given (Gives v) = return v
-or_given OutsideCells = raise InvalidMemoryAccess
-or_given NoAddress = raise Extract
+abbrev pub error_of : Missing → Error
+error_of OutsideCells = InvalidMemoryAccess
+error_of NoAddress = Extract
+
+unfoldable pub or_given : Result Cell Missing → Exec Cell
+or_given (Ok v) = return v
+or_given (Err m) = raise (error_of m)
 
 unfoldable pub or_put : Put → Exec (Unit {0})
 or_put (assigned s) = λ c. ok tt (with_regs s c)

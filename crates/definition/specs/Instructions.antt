@@ -1,20 +1,23 @@
 -- instructions.rs: what each instruction does, the effects in the order of the lines.
-use Rattle.std.specs.Prelude.{Bool, not, cond, ◌&&◌, ◌||◌, ℕ, ◌-◌, ℤ, pos, neg_ℤ, nat_abs, ◌+ℤ◌, ◌-ℤ◌, ◌*ℤ◌}
+use Rattle.std.specs.Prelude.{Bool, not, cond, ◌&&◌, ◌||◌, ℕ, ◌-◌, ℤ, pos, neg_ℤ, nat_abs, ◌+ℤ◌, ◌-ℤ◌, ◌*ℤ◌, None, Option, Some}
+use Rattle.definition.specs.declared.Op.TheVariants as O
+use Rattle.definition.specs.declared.Request.{Request}
+use Rattle.definition.specs.declared.Request.TheVariants.{Nothing, Reads, Writes}
+use Rattle.definition.specs.declared.Op.{Op}
+use Rattle.definition.specs.declared.Operand.{Operand}
+use Rattle.definition.specs.declared.Operand.TheVariants.{Absent, Dir, Idx, Imm, Ind, Register}
+use Rattle.definition.specs.declared.Reg.{Reg}
 use Rattle.std.specs.Int.Signed.{lt_z}
 use Rattle.definition.specs.declared.Cell.{Cell}
 use Rattle.definition.specs.declared.Registers.{Registers}
 use Rattle.definition.specs.declared.Wrapped.{Wrapped}
-use Rattle.definition.specs.declared.Quotient.{Quotient}
-use Rattle.definition.specs.declared.Quotient.TheVariants.{Rounded, NoQuotient}
 use Rattle.definition.specs.declared.Error.TheVariants.{DivByZero, InvalidInstruction, Trap, InvalidMemoryAccess, CellError, Extract, Reset}
 use Rattle.definition.specs.Constants.{ZERO, NEGATIVE, OVERFLOW, INTERRUPT-PC-SAVE, INTERRUPT-SR-SAVE}
 use Rattle.definition.specs.Word.{eq_z, wrapped, quotient, is_shift, shl_w, shr_w, and_w, or_w, xor_w, not_w, bit}
 use Rattle.definition.specs.Memory.{word}
-use Rattle.definition.specs.Registers.{Reg, get_reg, put_reg, Put, assigned, refused, put_flag, with_pc, with_sr}
-use Rattle.definition.specs.Arguments.{Operand, none, imm, reg, dir, ind, idx, resolve, resolved, extract_cell}
+use Rattle.definition.specs.Registers.{get_reg, put_reg, Put, assigned, refused, put_flag, with_pc, with_sr}
+use Rattle.definition.specs.Arguments.{resolve, resolved, extract_cell}
 use Rattle.definition.specs.Exec.{with_regs, Exec, ◌>>=◌, ◌>>◌, return, raise, branch, ask, change, take_word, take_address, or_address, or_given, assign, read, write, check_privileged, push, pop}
-use Rattle.definition.specs.Encoding as E
-use Rattle.definition.specs.Encoding.{Op, Instruction}
 
 -- An operand's cell, word or address, and the word of a register: "any other operand, register or jump target that cannot be taken is
 -- stop 4".
@@ -64,9 +67,9 @@ unfoldable pub put_compared : ℤ → ℤ → Registers → Put
 put_compared v w s = assigned (put_flag NEGATIVE (lt_z v w) (put_flag ZERO (eq_z v w) s))
 
 -- "Operand 0, or smallest word / -1, raises code 1."
-unfoldable pub put_quotient : Reg → Quotient → Registers → Put
-put_quotient r (Rounded q) s = put_result r q s
-put_quotient r NoQuotient s = refused DivByZero
+unfoldable pub put_quotient : Reg → Option ℤ → Registers → Put
+put_quotient r (Some q) s = put_result r q s
+put_quotient r None s = refused DivByZero
 
 -- "Shift amounts are 0 to 63; others raise code 2."
 unfoldable pub put_shifted : (ℤ → ℕ → ℤ) → Reg → ℤ → ℤ → Registers → Put
@@ -145,17 +148,17 @@ fas g x r = do
 
 -- The second half of swap: the register's old cell goes to the operand, whose address is taken from the new registers.
 unfoldable pub swap_back : ℕ → Operand → Cell → Exec (Unit {0})
-swap_back g none v = raise CellError
-swap_back g (imm w) v = raise CellError
-swap_back g (reg r) v = set_register r v
-swap_back g (dir w) v = do
-  n ← place_of (dir w)
+swap_back g Absent v = raise CellError
+swap_back g (Imm w) v = raise CellError
+swap_back g (Register r) v = set_register r v
+swap_back g (Dir w) v = do
+  n ← place_of (Dir w)
   write g n v
-swap_back g (ind r) v = do
-  n ← place_of (ind r)
+swap_back g (Ind r) v = do
+  n ← place_of (Ind r)
   write g n v
-swap_back g (idx r k) v = do
-  n ← place_of (idx r k)
+swap_back g (Idx r k) v = do
+  n ← place_of (Idx r k)
   write g n v
 
 -- "swap writes its register first and resolves the memory address from the new registers."
@@ -183,63 +186,57 @@ reset = do
   change (λ s. with_pc (s.pc - 1) s)
   raise Reset
 
--- What an instruction asks of the console: nothing, a port read into a register, or a word written to a port.
-pub data Request : Type 0 where
-  nothing : Request
-  reads : ℕ → Reg → Request
-  writes : ℕ → ℤ → Request
-
 unfoldable pub quiet : Exec (Unit {0}) → Exec Request
 quiet m = do
   m
-  return nothing
+  return Nothing
 
 -- "in, out and rti check S first"
 unfoldable pub in_op : Operand → Reg → Exec Request
 in_op x r = do
   check_privileged
   port ← place_of x
-  return (reads port r)
+  return (Reads port r)
 
 unfoldable pub out_op : Operand → Operand → Exec Request
 out_op x y = do
   check_privileged
   w ← word_of x
   port ← place_of y
-  return (writes port w)
+  return (Writes port w)
 
 -- Instruction::execute, where g is the first address that the step may write
 unfoldable pub execute : ℕ → Op → Operand → Operand → Reg → Reg → Exec Request
-execute g E.ADD x y r₁ r₂ = quiet (words x r₂ (λ v w. put_wrapped r₂ (wrapped (v +ℤ w))))
-execute g E.AND x y r₁ r₂ = quiet (words x r₂ (λ v w. put_result r₂ (and_w v w)))
-execute g E.CALL x y r₁ r₂ = quiet (call g x)
-execute g E.CMP x y r₁ r₂ = quiet (words x r₂ put_compared)
-execute g E.DIV x y r₁ r₂ = quiet (words x r₂ (λ v w. put_quotient r₂ (quotient w v)))
-execute g E.FAS x y r₁ r₂ = quiet (fas g x r₂)
-execute g E.IN x y r₁ r₂ = in_op x r₂
-execute g E.JMP x y r₁ r₂ = quiet (jump x)
-execute g E.JEQ x y r₁ r₂ = quiet (jump_if (λ z n. z) x)
-execute g E.JNE x y r₁ r₂ = quiet (jump_if (λ z n. not z) x)
-execute g E.JLE x y r₁ r₂ = quiet (jump_if (λ z n. z || n) x)
-execute g E.JLT x y r₁ r₂ = quiet (jump_if (λ z n. not z && n) x)
-execute g E.JGE x y r₁ r₂ = quiet (jump_if (λ z n. z || not n) x)
-execute g E.JGT x y r₁ r₂ = quiet (jump_if (λ z n. not z && not n) x)
-execute g E.LD x y r₁ r₂ = quiet (ld x r₂)
-execute g E.MUL x y r₁ r₂ = quiet (words x r₂ (λ v w. put_wrapped r₂ (wrapped (v *ℤ w))))
-execute g E.NEG x y r₁ r₂ = quiet (neg r₁)
-execute g E.NOP x y r₁ r₂ = quiet (return tt)
-execute g E.NOT x y r₁ r₂ = quiet (not_op r₁)
-execute g E.OR x y r₁ r₂ = quiet (words x r₂ (λ v w. put_result r₂ (or_w v w)))
-execute g E.OUT x y r₁ r₂ = out_op x y
-execute g E.POP x y r₁ r₂ = quiet (pop_op r₁)
-execute g E.PUSH x y r₁ r₂ = quiet (push_op g x)
-execute g E.RESET x y r₁ r₂ = quiet reset
-execute g E.RTI x y r₁ r₂ = quiet rti
-execute g E.RTN x y r₁ r₂ = quiet rtn
-execute g E.SHL x y r₁ r₂ = quiet (words x r₂ (put_shifted shl_w r₂))
-execute g E.SHR x y r₁ r₂ = quiet (words x r₂ (put_shifted shr_w r₂))
-execute g E.ST x y r₁ r₂ = quiet (st g r₁ y)
-execute g E.SUB x y r₁ r₂ = quiet (words x r₂ (λ v w. put_wrapped r₂ (wrapped (w -ℤ v))))
-execute g E.SWAP x y r₁ r₂ = quiet (swap g x r₂)
-execute g E.TRAP x y r₁ r₂ = quiet (raise Trap)
-execute g E.XOR x y r₁ r₂ = quiet (words x r₂ (λ v w. put_result r₂ (xor_w v w)))
+execute g O.Add x y r₁ r₂ = quiet (words x r₂ (λ v w. put_wrapped r₂ (wrapped (v +ℤ w))))
+execute g O.And x y r₁ r₂ = quiet (words x r₂ (λ v w. put_result r₂ (and_w v w)))
+execute g O.Call x y r₁ r₂ = quiet (call g x)
+execute g O.Cmp x y r₁ r₂ = quiet (words x r₂ put_compared)
+execute g O.Div x y r₁ r₂ = quiet (words x r₂ (λ v w. put_quotient r₂ (quotient w v)))
+execute g O.Fas x y r₁ r₂ = quiet (fas g x r₂)
+execute g O.In x y r₁ r₂ = in_op x r₂
+execute g O.Jmp x y r₁ r₂ = quiet (jump x)
+execute g O.Jeq x y r₁ r₂ = quiet (jump_if (λ z n. z) x)
+execute g O.Jne x y r₁ r₂ = quiet (jump_if (λ z n. not z) x)
+execute g O.Jle x y r₁ r₂ = quiet (jump_if (λ z n. z || n) x)
+execute g O.Jlt x y r₁ r₂ = quiet (jump_if (λ z n. not z && n) x)
+execute g O.Jge x y r₁ r₂ = quiet (jump_if (λ z n. z || not n) x)
+execute g O.Jgt x y r₁ r₂ = quiet (jump_if (λ z n. not z && not n) x)
+execute g O.Ld x y r₁ r₂ = quiet (ld x r₂)
+execute g O.Mul x y r₁ r₂ = quiet (words x r₂ (λ v w. put_wrapped r₂ (wrapped (v *ℤ w))))
+execute g O.Neg x y r₁ r₂ = quiet (neg r₁)
+execute g O.Nop x y r₁ r₂ = quiet (return tt)
+execute g O.Not x y r₁ r₂ = quiet (not_op r₁)
+execute g O.Or x y r₁ r₂ = quiet (words x r₂ (λ v w. put_result r₂ (or_w v w)))
+execute g O.Out x y r₁ r₂ = out_op x y
+execute g O.Pop x y r₁ r₂ = quiet (pop_op r₁)
+execute g O.Push x y r₁ r₂ = quiet (push_op g x)
+execute g O.Reset x y r₁ r₂ = quiet reset
+execute g O.Rti x y r₁ r₂ = quiet rti
+execute g O.Rtn x y r₁ r₂ = quiet rtn
+execute g O.Shl x y r₁ r₂ = quiet (words x r₂ (put_shifted shl_w r₂))
+execute g O.Shr x y r₁ r₂ = quiet (words x r₂ (put_shifted shr_w r₂))
+execute g O.St x y r₁ r₂ = quiet (st g r₁ y)
+execute g O.Sub x y r₁ r₂ = quiet (words x r₂ (λ v w. put_wrapped r₂ (wrapped (w -ℤ v))))
+execute g O.Swap x y r₁ r₂ = quiet (swap g x r₂)
+execute g O.Trap x y r₁ r₂ = quiet (raise Trap)
+execute g O.Xor x y r₁ r₂ = quiet (words x r₂ (λ v w. put_result r₂ (xor_w v w)))

@@ -12,6 +12,7 @@ pub mod Exec
 pub mod Instructions
 pub mod Runtime
 pub mod Calls
+pub mod Answers
 pub mod Course
 pub mod UserMode
 pub mod Accepted

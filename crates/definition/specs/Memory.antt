@@ -1,13 +1,9 @@
 -- memory.rs: cells, and the lent list that holds three numbers for each.
-use Rattle.std.specs.Prelude.{Bool, true, false, not, List, ℕ, zero, suc, ◌+◌, ◌*◌, ◌/◌, ℤ, pos, negsuc, length, get_or, set, ltb}
+use Rattle.std.specs.Prelude.{Bool, true, false, not, List, ℕ, zero, suc, ◌+◌, ◌*◌, ◌/◌, ℤ, pos, negsuc, length, get_or, set, ltb, None, Option, Some}
 use Rattle.std.specs.Int.Signed.{lt_z}
 use Rattle.definition.specs.declared.Cell.{Cell}
 use Rattle.definition.specs.declared.Word.{Word}
 use Rattle.definition.specs.declared.Word.TheVariants.{Is, Empty, NotWord}
-use Rattle.definition.specs.declared.Address.{Address}
-use Rattle.definition.specs.declared.Address.TheVariants.{NotAddress}
-use Rattle.definition.specs.declared.Found.{Found}
-use Rattle.definition.specs.declared.Found.TheVariants.{Here, Outside}
 use Rattle.definition.specs.Word.{address_of}
 
 abbrev pub cell : ℤ → ℤ → ℤ → Cell
@@ -30,13 +26,13 @@ word_at (negsuc n) f = Empty
 unfoldable pub extract_word : Cell → Word
 extract_word v = word_at v.tag v.first
 
-unfoldable pub as_address : Word → Address
+unfoldable pub as_address : Word → Option ℕ
 as_address (Is w) = address_of w
 as_address Empty = address_of (pos 0)
-as_address NotWord = NotAddress
+as_address NotWord = None
 
 -- Cell::extract_address
-unfoldable pub extract_address : Cell → Address
+unfoldable pub extract_address : Cell → Option ℕ
 extract_address v = as_address (extract_word v)
 
 -- Is the cell an instruction?
@@ -54,10 +50,10 @@ cell_at l n = cell (get_or l (3 * n) (pos 0)) (get_or l (3 * n + 1) (pos 0)) (ge
 unfoldable pub put_cell : List ℤ → ℕ → Cell → List ℤ
 put_cell l n v = set (set (set l (3 * n) v.tag) (3 * n + 1) v.first) (3 * n + 2) v.second
 
-unfoldable pub found : Bool → Cell → Found
-found true v = Here v
-found false v = Outside
+unfoldable pub found : Bool → Cell → Option Cell
+found true v = Some v
+found false v = None
 
 -- Memory::get
-unfoldable pub get : List ℤ → ℕ → Found
+unfoldable pub get : List ℤ → ℕ → Option Cell
 get l n = found (ltb n (cell_count l)) (cell_at l n)

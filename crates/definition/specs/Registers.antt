@@ -1,20 +1,17 @@
 -- registers.rs, and Computer::set_register of mod.rs.
-use Rattle.std.specs.Prelude.{Bool, true, false, List, [], ◌∷◌, ℕ, ℤ, pos, get_or}
+use Rattle.std.specs.Prelude.{Bool, true, false, List, [], ◌∷◌, ℕ, ℤ, pos, get_or, None, Option, Some}
+use Rattle.definition.specs.declared.Reg.{Reg}
+use Rattle.definition.specs.declared.Reg.TheVariants.{A, B, PC, SP, SR}
 use Rattle.definition.specs.declared.Cell.{Cell}
 use Rattle.definition.specs.declared.Registers.{Registers}
 use Rattle.definition.specs.declared.Word.{Word}
 use Rattle.definition.specs.declared.Word.TheVariants.{Is, Empty, NotWord}
-use Rattle.definition.specs.declared.Address.{Address}
-use Rattle.definition.specs.declared.Address.TheVariants.{At, NotAddress}
 use Rattle.definition.specs.declared.Error.{Error}
 use Rattle.definition.specs.declared.Error.TheVariants.{PrivilegedInstruction, InvalidPc, InvalidSp, InvalidSr}
 use Rattle.definition.specs.Constants.{SUPERVISOR, INTERRUPT-ENABLE}
 use Rattle.definition.specs.Word.{bit, put_bit}
 use Rattle.definition.specs.Total.{total}
 use Rattle.definition.specs.Memory.{word, extract_word, extract_address}
-
-pub data Reg : Type 0 where
-  A B PC SP SR : Reg
 
 -- "registers: 0 a, 1 b, 2 pc, 3 sp, 4 sr"
 abbrev pub regs : List Reg
@@ -75,13 +72,13 @@ pub data Put : Type 0 where
   assigned : Registers → Put
   refused : Error → Put
 
-unfoldable pub put_pc : Address → Registers → Put
-put_pc (At n) s = assigned (with_pc n s)
-put_pc NotAddress s = refused InvalidPc
+unfoldable pub put_pc : Option ℕ → Registers → Put
+put_pc (Some n) s = assigned (with_pc n s)
+put_pc None s = refused InvalidPc
 
-unfoldable pub put_sp : Address → Registers → Put
-put_sp (At n) s = assigned (with_sp n s)
-put_sp NotAddress s = refused InvalidSp
+unfoldable pub put_sp : Option ℕ → Registers → Put
+put_sp (Some n) s = assigned (with_sp n s)
+put_sp None s = refused InvalidSp
 
 -- "Writing sr with S clear raises code 3, whatever the value."
 unfoldable pub put_sr : Bool → Word → Registers → Put

@@ -1,19 +1,25 @@
 -- mod.rs: fetch, exception entry, poll, a step, and a run on a budget.
-use Rattle.std.specs.Prelude.{Bool, true, false, cond, ◌&&◌, List, ℕ, zero, suc, ◌+◌, ℤ, pos, ltb, eqb}
+use Rattle.std.specs.Prelude.{Bool, true, false, cond, ◌&&◌, List, ℕ, zero, suc, ◌+◌, ℤ, pos, ltb, eqb, None, Option, Some}
+use Rattle.definition.specs.declared.Executed.{Executed}
+use Rattle.definition.specs.declared.Ending.{Ending}
+use Rattle.definition.specs.declared.Ending.TheVariants.{Exception, Stop}
+use Rattle.definition.specs.declared.Instruction.{Instruction}
+use Rattle.definition.specs.declared.Request.{Request}
+use Rattle.definition.specs.declared.Request.TheVariants.{Nothing, Reads, Writes}
 use Rattle.definition.specs.declared.Registers.{Registers}
 use Rattle.definition.specs.declared.Timer.{Timer}
 use Rattle.definition.specs.declared.Error.TheVariants.{InvalidInstruction, InvalidMemoryAccess}
 use Rattle.definition.specs.Constants.{INTERRUPT-PC-SAVE, INTERRUPT-SR-SAVE, INTERRUPT-EXCEPTION, INTERRUPT-HANDLER, INTERRUPT-ENABLE, SUPERVISOR, CYCLES-END, TIMER-INTERVAL-PORT}
 use Rattle.definition.specs.Word.{put_bit}
 use Rattle.definition.specs.Total.{total}
-use Rattle.definition.specs.Exception.{Ending, exception, stop, ending, HARDWARE-INTERRUPT, BUDGET-SPENT, NO-HANDLER, OUTPUT-FULL, CYCLES-FULL}
+use Rattle.definition.specs.Exception.{ending, HARDWARE-INTERRUPT, BUDGET-SPENT, NO-HANDLER, OUTPUT-FULL, CYCLES-FULL}
 use Rattle.definition.specs.Memory.{word, cell_at, put_cell, is_instruction}
 use Rattle.definition.specs.Registers.{with_pc, with_sr, with_empties, supervisor, interrupt_enable}
-use Rattle.definition.specs.Encoding.{Instruction, Extracted, instruction, no_instruction, extract_instruction}
+use Rattle.definition.specs.Encoding.{extract_instruction}
 use Rattle.definition.specs.Io.{Console, with_marks, with_pending, read_port, write_port, output_full}
 use Rattle.definition.specs.Timer.{with_timer_mark, set_timer, tick, tick_entry, read_timer}
 use Rattle.definition.specs.Exec.{Core, with_regs, with_cells, Exec, Res, ok, err, ◌>>=◌, ◌>>◌, return, raise, ask, change, read}
-use Rattle.definition.specs.Instructions.{Request, nothing, reads, writes, execute, set_register}
+use Rattle.definition.specs.Instructions.{execute, set_register}
 
 -- The whole computer: cells and registers, cycles, console, fence, timer.
 pub record Machine : Type 0 where
@@ -45,9 +51,9 @@ with_mark p m = with_console (with_marks (with_pending p m.console.marks) m.cons
 
 -- ---- an instruction, fetched and executed
 
-unfoldable pub or_instruction : Extracted → Exec Instruction
-or_instruction (instruction i) = return i
-or_instruction no_instruction = raise InvalidInstruction
+unfoldable pub or_instruction : Option Instruction → Exec Instruction
+or_instruction (Some i) = return i
+or_instruction None = raise InvalidInstruction
 
 -- "Fetch at pc outside the cells raises code 5 with pc unmoved. A fetched cell that is no instruction raises code 2 with pc moved on."
 unfoldable pub fetch : Exec Instruction
@@ -57,15 +63,10 @@ fetch = do
   change (with_pc (suc n))
   or_instruction (extract_instruction v)
 
--- What an executed instruction costs, and what it asks of the console.
-pub record Executed : Type 0 where
-  pub cost : ℕ
-  pub request : Request
-
 unfoldable pub attempt : ℕ → Exec Executed
 attempt g = do
   i ← fetch
-  q ← execute g i.op i.x i.y i.r₁ i.r₂
+  q ← execute g i.op i.x i.y i.r1 i.r2
   return (record { cost = i.cycles; request = q })
 
 -- ---- up to exception entry
@@ -78,8 +79,8 @@ pub data Turn : Type 0 where
   stops : ℕ → ℕ → Machine → Turn
 
 unfoldable pub ends : Ending → Machine → Turn
-ends (exception k) m = enters k m
-ends (stop n d) m = stops n d m
+ends (Exception k) m = enters k m
+ends (Stop n d) m = stops n d m
 
 -- "then, if I is set, the pending mark is taken and, if it was set, code 0 is entered". "The poll takes the console's mark first and
 -- otherwise the timer's."
@@ -102,10 +103,10 @@ conclude cost m (err e c) = ends (ending e) (with_core c m)
 -- The console or the timer serves what the instruction asks; m is the machine before the step. "A step that writes port 120 takes nothing
 -- off."
 unfoldable pub serve : Machine → Request → ℕ → Core → Turn
-serve m nothing cost c = conclude cost m (ok tt c)
-serve m (reads p r) cost c =
+serve m Nothing cost c = conclude cost m (ok tt c)
+serve m (Reads p r) cost c =
     conclude cost (with_console (read_port p m.console).1 m) (set_register r (word (pos (read_timer p m.timer (read_port p m.console).0))) c)
-serve m (writes p w) cost c =
+serve m (Writes p w) cost c =
     cond
     (output_full p m.console)
     (stops OUTPUT-FULL 0 m)

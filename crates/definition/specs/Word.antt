@@ -1,14 +1,10 @@
 -- Words: the numbers from -2^63 to 2^63 - 1, and the operations on them that instructions.rs takes from i64.
-use Rattle.std.specs.Prelude.{Bool, true, false, not, cond, ◌&&◌, ◌||◌, ℕ, suc, ◌+◌, ◌*◌, ◌-◌, ◌/◌, ◌%◌, ◌^◌, ℤ, pos, negsuc, ◌*ℤ◌, ltb, leb, eqb}
+use Rattle.std.specs.Prelude.{Bool, true, false, not, cond, ◌&&◌, ◌||◌, ℕ, suc, ◌+◌, ◌*◌, ◌-◌, ◌/◌, ◌%◌, ◌^◌, ℤ, pos, negsuc, ◌*ℤ◌, ltb, leb, eqb, None, Option, Some}
 use Rattle.std.specs.Int.Signed.{le_z, lt_z, quot_z, shr_z}
 use Rattle.std.specs.Int.Bits.{bit_and, bit_or, bit_xor}
 use Rattle.std.specs.Int.{w64}
 use Rattle.std.proofs.Common.{to_z}
 use Rattle.definition.specs.declared.Wrapped.{Wrapped}
-use Rattle.definition.specs.declared.Quotient.{Quotient}
-use Rattle.definition.specs.declared.Quotient.TheVariants.{Rounded, NoQuotient}
-use Rattle.definition.specs.declared.Address.{Address}
-use Rattle.definition.specs.declared.Address.TheVariants.{At, NotAddress}
 
 -- Two's complement: the 64 bits of a number, as a number below 2^64. `to_z w64` reads 64 bits back as a word.
 abbrev pub bits : ℤ → ℕ
@@ -36,17 +32,17 @@ eq_z (negsuc a) (pos b) = false
 eq_z (negsuc a) (negsuc b) = eqb a b
 
 -- "An address is a word 0 to 4,294,967,295."
-unfoldable pub address_of : ℤ → Address
-address_of (pos n) = cond (leb n 4294967295) (At n) NotAddress
-address_of (negsuc n) = NotAddress
+unfoldable pub address_of : ℤ → Option ℕ
+address_of (pos n) = cond (leb n 4294967295) (Some n) None
+address_of (negsuc n) = None
 
 -- "smallest word"
 abbrev pub smallest : ℤ
 smallest = negsuc 9223372036854775807
 
 -- "div is register / operand, rounded toward zero. Operand 0, or smallest word / -1, raises code 1."
-unfoldable pub quotient : ℤ → ℤ → Quotient
-quotient w v = cond (eq_z v (pos 0) || (eq_z w smallest && eq_z v (negsuc 0))) NoQuotient (Rounded (quot_z w v))
+unfoldable pub quotient : ℤ → ℤ → Option ℤ
+quotient w v = cond (eq_z v (pos 0) || (eq_z w smallest && eq_z v (negsuc 0))) None (Some (quot_z w v))
 
 -- "Shift amounts are 0 to 63"
 unfoldable pub is_shift : ℤ → Bool

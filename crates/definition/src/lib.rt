@@ -1,6 +1,8 @@
-// The types and the places that the definition and the code share, declared once. No function stands here.
+// The types and the places that the definition and the code share, declared once.
 #![tactic(auto)]
 
+pub mod answers;
+pub mod errors;
 pub mod places;
 
 // Three numbers (document 01, "Cells and row"): empty is 0,0,0, word w is 1,w,0, an instruction has a tag of 2 or more.
@@ -47,24 +49,9 @@ pub enum Word {
     NotWord,
 }
 
-// The address that a word is, if it is one.
+// Why an operand gives no cell: its address is outside the cells, or it has no address.
 #[derive(Clone, Copy)]
-pub enum Address {
-    At(u32),
-    NotAddress,
-}
-
-// The cell at an address, if the address is inside the cells.
-#[derive(Clone, Copy)]
-pub enum Found {
-    Here(Cell),
-    Outside,
-}
-
-// The cell that an operand gives. Where it gives none, its address is outside the cells, or it has no address.
-#[derive(Clone, Copy)]
-pub enum Given {
-    Gives(Cell),
+pub enum Missing {
     OutsideCells,
     NoAddress,
 }
@@ -74,13 +61,6 @@ pub enum Given {
 pub struct Wrapped {
     pub value: i64,
     pub overflow: bool,
-}
-
-// A quotient, if there is one.
-#[derive(Clone, Copy)]
-pub enum Quotient {
-    Rounded(i64),
-    NoQuotient,
 }
 
 // What ends an instruction early: `ProcessorError` of mod.rs, its exceptions and its registers spelled out.
@@ -97,6 +77,98 @@ pub enum Error {
     InvalidSp,
     InvalidSr,
     Reset,
+}
+
+// What ends a step: exception entry with a code, or a stop with its number and detail.
+#[derive(Clone, Copy)]
+pub enum Ending {
+    Exception(u32),
+    Stop(u32, u32),
+}
+
+// Reg of registers.rs.
+#[derive(Clone, Copy)]
+pub enum Reg {
+    A,
+    B,
+    PC,
+    SP,
+    SR,
+}
+
+// An operand: the types of arguments.rs in one.
+#[derive(Clone, Copy)]
+pub enum Operand {
+    Absent,
+    Imm(i64),
+    Register(Reg),
+    Dir(i64),
+    Ind(Reg),
+    Idx(Reg, i64),
+}
+
+// "op is 0 to 32 in the order of `Instruction`"
+#[derive(Clone, Copy)]
+pub enum Op {
+    Add,
+    And,
+    Call,
+    Cmp,
+    Div,
+    Fas,
+    In,
+    Jmp,
+    Jeq,
+    Jne,
+    Jle,
+    Jlt,
+    Jge,
+    Jgt,
+    Ld,
+    Mul,
+    Neg,
+    Nop,
+    Not,
+    Or,
+    Out,
+    Pop,
+    Push,
+    Reset,
+    Rti,
+    Rtn,
+    Shl,
+    Shr,
+    St,
+    Sub,
+    Swap,
+    Trap,
+    Xor,
+}
+
+// An instruction as it is executed: its operands, the registers that its tag names, and its cost.
+#[derive(Clone, Copy)]
+pub struct Instruction {
+    pub op: Op,
+    pub x: Operand,
+    pub y: Operand,
+    pub r1: Reg,
+    pub r2: Reg,
+    pub cycles: u64,
+}
+
+// What an instruction asks of the console: nothing, a port read into a register, or a word written to a port.
+#[derive(Clone, Copy)]
+pub enum Request {
+    Nothing,
+    Reads(u32, Reg),
+    Writes(u32, i64),
+}
+
+// What an executed instruction costs, and what it asks of the console.
+#[derive(Clone, Copy)]
+pub struct Executed {
+    pub cost: u64,
+    pub request: Request,
 }
 
 // The answers of the calls. A refusal of 0 says that the call was done; the other fields are 0 where it was refused.

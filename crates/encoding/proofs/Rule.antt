@@ -79,9 +79,9 @@ positive : (b : Bool) (x y : ℕ) → ltb 0 (cond b (1 + x + y) 0) ≡ b
 positive true x y = lt-ltb 0 (1 + x + y) (omega arith)
 positive false x y = refl
 
-pub legal-worked : (o m₁ m₂ : ℕ) → o < 33 → m₁ < 6 → m₂ < 6 → worked_legal o m₁ m₂ ≡ legal o m₁ m₂
+pub legal_worked : (o m₁ m₂ : ℕ) → o < 33 → m₁ < 6 → m₂ < 6 → worked_legal o m₁ m₂ ≡ legal o m₁ m₂
 unfolding cost worked_cost
-legal-worked o m₁ m₂ ho h₁ h₂ =
+legal_worked o m₁ m₂ ho h₁ h₂ =
     sym (positive (worked_legal o m₁ m₂) (mode_cost m₁) (mode_cost m₂)) ∙ ap (ltb 0) (cost-worked o m₁ m₂ ho h₁ h₂) ∙ positive (legal o m₁ m₂) (mode_cost m₁) (mode_cost m₂)
 
 -- ---- what the code's leaves need
@@ -96,6 +96,6 @@ mode_small (suc (suc (suc (suc zero)))) = omega arith
 mode_small (suc (suc (suc (suc (suc zero))))) = omega arith
 mode_small (suc (suc (suc (suc (suc (suc m)))))) = omega arith
 
-pub cost-legal : (o m₁ m₂ : ℕ) → legal o m₁ m₂ ≡ true → 1 + mode_cost m₁ + mode_cost m₂ ≡ cost o m₁ m₂
+pub cost_legal : (o m₁ m₂ : ℕ) → legal o m₁ m₂ ≡ true → 1 + mode_cost m₁ + mode_cost m₂ ≡ cost o m₁ m₂
 unfolding cost
-cost-legal o m₁ m₂ h = rw h
+cost_legal o m₁ m₂ h = rw h

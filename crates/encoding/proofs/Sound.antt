@@ -1,22 +1,15 @@
 -- A tag taken apart by the code's quotients, soundness by the code's tests, and the cells one after another.
-use mathlib.Core.Path.{◌≡◌, refl, sym, ◌∙◌, ap}
-use mathlib.Core.Bool.{Bool, true, false, cond, ◌&&◌, ◌||◌, true≢false}
-use mathlib.Core.List.{List, [], ◌∷◌}
-use Prim.Native.Nat.{ℕ, zero, suc, ◌+◌, ◌*◌, ◌-◌, ◌/◌, ◌%◌, ◌<◌, ◌≤◌}
-use native.Mathlib.Omega.{arith}
-use lib.IntN.{ℤ, pos, negsuc, nat_abs}
-use lib.Signed.{lt_z, non_neg}
-use lib.Dec.{T, eqb}
-use lib.ListN.{length, get_or, drop}
-use lib.Seq.{drop-cons}
-use mir.Syntax.{w32}
-use mir.Val.{Fits}
-use borrow.Author.Tests.{ltb-true, ltb-false, le-ltb, eqb-true}
-use Rattle.definition.specs.declared.Cell.{Cell}
+use Rattle.std.proofs.Common.{◌||◌, Bool, T, Fits, w32, ltb-true, ltb-false, true≢false, ◌≡◌, refl, sym, ◌∙◌, ap, true, false, List, [], ◌∷◌, ℕ, zero, suc, ◌+◌, ◌*◌, ◌-◌, ◌/◌, ◌%◌, ◌<◌, ◌≤◌, arith, ℤ, pos, negsuc, nat_abs, ◌<ℤ◌, ◌≤ℤ◌, eqb, length, get_or, drop, drop-cons, le-ltb, lit<, w64, SFits, of_z}
+use Rattle.std.proofs.lemmas.Int.{ints}
+use Rattle.std.proofs.lemmas.List.{get_or_past}
+use lib.Signed.{non_neg}
+use Rattle.std.specs.Int.Signed.{lt_z}
+use Rattle.definition.specs.declared.Op.TheVariants as O
 use Rattle.definition.specs.Word.{eq_z}
 use Rattle.definition.specs.Memory.{cell_at}
-use Rattle.definition.specs.Encoding.{legal, sound_instruction, sound_at, sound}
+use Rattle.definition.specs.Encoding.{ops, op_at, legal, sound_instruction, sound_at, sound}
 use Rattle.definition.specs.Calls.{lowest_damaged}
+use Rattle.word.proofs.Laws.{eq-bits}
 
 -- ---- a tag less 2: k is the table's place
 
@@ -34,55 +27,50 @@ modes t k o m₁ e f g = (omega arith, omega arith)
 pub registers : (t k r₁ : ℕ) → k ≡ t / 25 → r₁ ≡ (t - 25 * k) / 5 → (r₁ ≡ t / 5 % 5) × (t - 25 * k - 5 * r₁ ≡ t % 5)
 registers t k r₁ e f = (omega arith, omega arith)
 
+-- ---- an operation's number past the last: trap
+
+pub op-past : (n : ℕ) → 33 ≤ n → O.Trap ≡ op_at n
+unfolding op_at
+op-past n h = sym (get_or_past ops n O.Trap h)
+
+-- ---- an operand's number: 0 or any number, else an address
+
+pub zero-test : (w : ℤ) → SFits w64 w → eqb (of_z w64 w) 0 ≡ eq_z w (pos 0)
+zero-test w f = eq-bits w (pos 0) f (record { sfits = lit< tt })
+
+pub fits-at-once : (a b c d : Bool) → (a || (b || c)) ≡ true → true ≡ (a || (b || (c || d)))
+fits-at-once true b c d h = refl
+fits-at-once false true c d h = refl
+fits-at-once false false true d h = refl
+fits-at-once false false false d h = absurd (true≢false (sym h))
+
+pub fits-as-address : (a b c d : Bool) → (a || (b || c)) ≡ false → d ≡ (a || (b || (c || d)))
+fits-as-address true b c d h = absurd (true≢false h)
+fits-as-address false true c d h = absurd (true≢false h)
+fits-as-address false false true d h = absurd (true≢false h)
+fits-as-address false false false d h = refl
+
 -- ---- soundness
 
-pub word_sound : (t f s : ℤ) → eq_z t (pos 1) ≡ true → eq_z s (pos 0) ≡ sound_at t f s
+pub instruction-sound : (t : ℤ) (n : ℕ) (f s : ℤ) → t ≡ pos (n + 2) → sound_instruction n f s ≡ sound_at t f s
 unfolding sound_at
-word_sound (pos zero) f s h = absurd (true≢false (sym h))
-word_sound (pos (suc zero)) f s h = refl
-word_sound (pos (suc (suc n))) f s h = let e : suc (suc n) ≡ 1 = eqb-true (suc (suc n)) 1 h in absurd (omega arith)
-word_sound (negsuc n) f s h = absurd (true≢false (sym h))
+instruction-sound t n f s e = let k : n + 2 ≡ suc (suc n) = omega arith in rw (e, k)
 
-pub empty-sound : (t f s : ℤ) → lt_z t (pos 2) ≡ true → eq_z t (pos 1) ≡ false → (eq_z t (pos 0) && (eq_z f (pos 0) && eq_z s (pos 0))) ≡ sound_at t f s
+pub below-sound : (t f s : ℤ) → t <ℤ pos 0 → false ≡ sound_at t f s
 unfolding sound_at
-empty-sound (pos zero) f s h k = refl
-empty-sound (pos (suc zero)) f s h k = absurd (true≢false k)
-empty-sound (pos (suc (suc n))) f s h k = let l : suc (suc n) < 2 = ltb-true (suc (suc n)) 2 h in absurd (omega arith)
-empty-sound (negsuc n) f s h k = refl
-
-pub record Code (t : ℤ) : Type 0 where
-  pub whole : T (non_neg t) × Fits w32 (nat_abs t)
-  pub least : 2 ≤ nat_abs t
-  pub most : nat_abs t - 2 < 29700
-
-pub code : (t : ℤ) → lt_z t (pos 2) ≡ false → lt_z t (pos 29702) ≡ true → Code t
-code (pos n) h k =
-    let a : 2 ≤ n = ltb-false n 2 h in
-    let b : n < 29702 = ltb-true n 29702 k in
-    record { whole = (tt, omega arith); least = a; most = omega arith }
-code (negsuc n) h k = absurd (true≢false h)
-
-pub code-sound : (t f s : ℤ) → lt_z t (pos 2) ≡ false → sound_instruction (nat_abs t - 2) f s ≡ sound_at t f s
-unfolding sound_at
-code-sound (pos zero) f s h = absurd (true≢false h)
-code-sound (pos (suc zero)) f s h = absurd (true≢false h)
-code-sound (pos (suc (suc n))) f s h =
-    let e : suc (suc n) - 2 ≡ n = omega arith in
-    ap (λ (k : ℕ). sound_instruction k f s) e
-code-sound (negsuc n) f s h = absurd (true≢false h)
+below-sound (pos n) f s h = absurd (omega (arith, ints))
+below-sound (negsuc n) f s h = refl
 
 far-op : (n : ℕ) (f s : ℤ) → 29700 ≤ n → sound_instruction n f s ≡ false
 unfolding sound_instruction legal
 far-op n f s h = simp (le-ltb (n / 900) 33 (omega arith))
 
-pub far : (t f s : ℤ) → lt_z t (pos 29702) ≡ false → false ≡ sound_at t f s
+pub past-sound : (t f s : ℤ) → pos 29702 ≤ℤ t → false ≡ sound_at t f s
 unfolding sound_at
-far (pos zero) f s h = absurd (true≢false h)
-far (pos (suc zero)) f s h = absurd (true≢false h)
-far (pos (suc (suc n))) f s h =
-    let k : 29702 ≤ suc (suc n) = ltb-false (suc (suc n)) 29702 h in
-    sym (far-op n f s (omega arith))
-far (negsuc n) f s h = refl
+past-sound (pos zero) f s h = absurd (omega (arith, ints))
+past-sound (pos (suc zero)) f s h = absurd (omega (arith, ints))
+past-sound (pos (suc (suc n))) f s h = sym (far-op n f s (omega (arith, ints)))
+past-sound (negsuc n) f s h = absurd (omega (arith, ints))
 
 -- ---- the cells from address n on
 
@@ -116,25 +104,22 @@ damaged-none n (t ∷ []) h = refl
 damaged-none n (t ∷ f ∷ []) h = refl
 damaged-none n (t ∷ f ∷ s ∷ l) h = absurd (omega arith)
 
--- ---- an operand's number: 0 or any number, else an address
+-- ---- what the crates above ask of a tag
 
-pub fits-at-once : (a b c d : Bool) → (a || (b || c)) ≡ true → true ≡ (a || (b || (c || d)))
-fits-at-once true b c d h = refl
-fits-at-once false true c d h = refl
-fits-at-once false false true d h = refl
-fits-at-once false false false d h = absurd (true≢false (sym h))
+pub record Code (t : ℤ) : Type 0 where
+  pub whole : T (non_neg t) × Fits w32 (nat_abs t)
+  pub least : 2 ≤ nat_abs t
+  pub most : nat_abs t - 2 < 29700
 
-pub fits-as-address : (a b c d : Bool) → (a || (b || c)) ≡ false → d ≡ (a || (b || (c || d)))
-fits-as-address true b c d h = absurd (true≢false h)
-fits-as-address false true c d h = absurd (true≢false h)
-fits-as-address false false true d h = absurd (true≢false h)
-fits-as-address false false false d h = refl
+pub code : (t : ℤ) → lt_z t (pos 2) ≡ false → lt_z t (pos 29702) ≡ true → Code t
+code (pos n) h k =
+    let a : 2 ≤ n = ltb-false n 2 h in
+    let b : n < 29702 = ltb-true n 29702 k in
+    record { whole = (tt, omega arith); least = a; most = omega arith }
+code (negsuc n) h k = absurd (true≢false h)
 
--- One cell, as the cells' search takes it.
-pub one_cell : (v : Cell) → eqb (lowest_damaged 0 (v.tag ∷ v.first ∷ v.second ∷ [])) 1 ≡ sound v
-unfolding lowest_damaged
-one_cell v = by (sound v)
-  where
-    by : (b : Bool) → eqb (cond b 1 0) 1 ≡ b
-    by true = refl
-    by false = refl
+pub code-sound : (t f s : ℤ) → lt_z t (pos 2) ≡ false → sound_instruction (nat_abs t - 2) f s ≡ sound_at t f s
+code-sound t f s h = instruction-sound t (nat_abs t - 2) f s (grind (arith, ints))
+
+pub far : (t f s : ℤ) → lt_z t (pos 29702) ≡ false → false ≡ sound_at t f s
+far t f s h = past-sound t f s (grind (arith, ints))

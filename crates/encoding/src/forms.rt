@@ -1,67 +1,68 @@
-// Which forms are instructions, and what each costs: one number an operation and one a mode. They stand in a match, whose last arm is
-// the last of them: the compiler makes it one read-only table, or a test. A constant array would be built anew where it is named.
+// Which forms are instructions, and what each costs: one number an operation and one a mode. The operations' stand in a static: a constant
+// array would be built anew where it is named.
 ghost use Rattle.std.specs.Prelude.{◌≡◌, true, ◌+◌, ◌<◌, get_or};
 ghost use Rattle.definition.specs.Arguments.{mode_cost};
 ghost use Rattle.definition.specs.Encoding.{legal, cost};
 ghost use Rattle.encoding.specs.Forms.{operations, has};
 
 // An operation's number: bit m is set where the first operand may have mode m, bit 6 + m where the second may.
+static OPERATIONS: [u32; 33] = [
+    318, // add
+    318, // and
+    126, // call
+    318, // cmp
+    318, // div
+    312, // fas
+    312, // in
+    126, // jmp
+    126, // jeq
+    126, // jne
+    126, // jle
+    126, // jlt
+    126, // jge
+    126, // jgt
+    318, // ld
+    318, // mul
+    68, // neg
+    65, // nop
+    68, // not
+    318, // or
+    3590, // out
+    68, // pop
+    70, // push
+    65, // reset
+    65, // rti
+    65, // rtn
+    318, // shl
+    318, // shr
+    3588, // st
+    318, // sub
+    316, // swap
+    65, // trap
+    318, // xor
+];
+
+#[tactic(auto, unfolding(crate::specs::Forms::operations))]
 fn operation(op: u32) -> u32
     requires { op < 33 }
     ensures { result ≡ get_or operations op 0 }
 {
-    match op {
-        0 => 318,
-        1 => 318,
-        2 => 126,
-        3 => 318,
-        4 => 318,
-        5 => 312,
-        6 => 312,
-        7 => 126,
-        8 => 126,
-        9 => 126,
-        10 => 126,
-        11 => 126,
-        12 => 126,
-        13 => 126,
-        14 => 318,
-        15 => 318,
-        16 => 68,
-        17 => 65,
-        18 => 68,
-        19 => 318,
-        20 => 3590,
-        21 => 68,
-        22 => 70,
-        23 => 65,
-        24 => 65,
-        25 => 65,
-        26 => 318,
-        27 => 318,
-        28 => 3588,
-        29 => 318,
-        30 => 316,
-        31 => 65,
-        _ => 318,
-    }
+    OPERATIONS[op as usize]
 }
 
 // A mode's number: the cycles that an operand of it adds.
+#[tactic(auto, unfolding(definition::specs::Arguments::mode_cost))]
 fn mode(m: u32) -> u64
     requires { m < 6 }
     ensures { result ≡ mode_cost m }
 {
     match m {
-        0 => 0,
-        1 => 0,
-        2 => 0,
-        3 => 1,
-        4 => 1,
+        0..=2 => 0,
         _ => 1,
     }
 }
 
+#[tactic(auto, unfolding(crate::specs::Forms::has))]
 fn has(n: u32, bit: u32) -> bool
     requires { bit < 32 }
     ensures { result ≡ has n bit }
@@ -70,6 +71,7 @@ fn has(n: u32, bit: u32) -> bool
 }
 
 // "of which 124 are instructions"
+#[tactic(auto, using(crate::proofs::Rule::legal_worked), unfolding(crate::specs::Forms::worked_legal))]
 pub fn is_legal(op: u32, m1: u32, m2: u32) -> bool
     requires { (op < 33) × ((m1 < 6) × (m2 < 6)) }
     ensures { result ≡ legal op m1 m2 }
@@ -79,6 +81,7 @@ pub fn is_legal(op: u32, m1: u32, m2: u32) -> bool
 }
 
 // "An instruction costs one cycle and what its operands add."
+#[tactic(auto, using(crate::proofs::Rule::mode_small, crate::proofs::Rule::cost_legal))]
 pub fn cost_of(op: u32, m1: u32, m2: u32) -> u64
     requires { (op < 33) × ((m1 < 6) × ((m2 < 6) × (legal op m1 m2 ≡ true))) }
     ensures { result ≡ cost op m1 m2 }

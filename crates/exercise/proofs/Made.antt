@@ -1,5 +1,6 @@
 -- The forms, the cells made from them, and their list.
-use Rattle.std.proofs.Common.{◌≡◌, ℕ, zero, suc, ◌+◌, ◌-◌, ◌*◌, ◌/◌, ◌%◌, ◌<◌, ◌≤◌, Bool, true, false, cond, eqb, List, [], ◌∷◌, ◌++◌, length, get_or, take, set, ℤ, pos, sym, refl, ap, ◌∙◌, true≢false, append_assoc, arith, length-set, take-suc-set, eqb-true}
+use Rattle.std.proofs.Common.{◌≡◌, ℕ, zero, suc, ◌+◌, ◌-◌, ◌*◌, ◌/◌, ◌%◌, ◌<◌, ◌≤◌, Bool, true, false, cond, eqb, List, [], ◌∷◌, ◌++◌, length, get_or, take, set, ℤ, pos, sym, refl, ap, ◌∙◌, true≢false, append_assoc, append-nil, take_all, arith, length-set, take-suc-set, eqb-true}
+use Rattle.std.proofs.lemmas.Grind.{common_steps}
 use lib.Seq.{append_snoc}
 use borrow.Author.Tests.{eqb-false}
 use Rattle.definition.specs.Encoding.{allows, signature, op_at, legal, tag_of, register_fits, number_fits, sound_instruction, sound_at, sound}
@@ -157,16 +158,20 @@ front l a t f s h =
     ∙ append_snoc (take a l ++ (t ∷ [])) f (s ∷ [])
     ∙ append_snoc (take a l) t (f ∷ s ∷ []))
 
-pub made_more : (l : List ℤ) (n m s : ℕ) (v : Cell) → 3 * n + 2 < length l → v ≡ cell_from s
-    → take (3 * suc n) (put_cell l n v) ++ made m (third_state s) ≡ take (3 * n) l ++ made (suc m) s
+pub made_more : (l : List ℤ) (n m s : ℕ) (v : Cell) → 3 * n + 2 < length l → v ≡ cell_from s → n < m
+    → take (3 * (n + 1)) (put_cell l n v) ++ made (m - (n + 1)) (third_state s) ≡ take (3 * n) l ++ made (m - n) s
 unfolding put_cell made
-made_more l n m s v h e =
-    let a : 3 * suc n ≡ 3 * n + 3 = omega arith in
-    rw (a, front l (3 * n) v.tag v.first v.second h, e)
-    (append_assoc (take (3 * n) l) ((cell_from s).tag ∷ (cell_from s).first ∷ (cell_from s).second ∷ []) (made m (third_state s)))
+made_more l n m s v h e i =
+    let a : 3 * (n + 1) ≡ 3 * n + 3 = omega arith in
+    let b : m - n ≡ suc (m - (n + 1)) = omega arith in
+    rw (a, b, front l (3 * n) v.tag v.first v.second h, e)
+    (append_assoc (take (3 * n) l) ((cell_from s).tag ∷ (cell_from s).first ∷ (cell_from s).second ∷ []) (made (m - (n + 1)) (third_state s)))
 
--- The cell that the code draws, state by state.
-pub cell-drawn : (s : ℕ) {s₁ s₂ s₃ d₁ d₂ d₃ : ℕ} → s₁ ≡ next_state s → s₂ ≡ next_state s₁ → s₃ ≡ next_state s₂ → d₁ ≡ draw s₁ → d₂ ≡ draw s₂ → d₃ ≡ draw s₃
-    → cell_of d₁ d₂ d₃ ≡ cell_from s
-unfolding cell_from
-cell-drawn s e₁ e₂ e₃ f₁ f₂ f₃ = rw (f₁, f₂, f₃, e₃, e₂, e₁)
+-- all are made
+pub made_all : (l : List ℤ) (n m s : ℕ) → m ≤ n → length l ≤ 3 * n → take (3 * n) l ++ made (m - n) s ≡ l
+unfolding made
+made_all l n m s h i =
+    let e : m - n ≡ 0 = omega arith in
+    rw (e, take_all (3 * n) l i) (append-nil l)
+
+pub ruleset steps = (common_steps, made_more, made_all)

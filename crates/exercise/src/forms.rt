@@ -1,5 +1,5 @@
-// The 124 forms in table order, each by its entry op * 36 + m1 * 6 + m2. An array is built anew where it is named: a call names it once and lends it down.
-pub const FORMS: [u32; 124] = [
+// The 124 forms in table order, each by its entry op * 36 + m1 * 6 + m2.
+pub static FORMS: [u32; 124] = [
     8, 14, 20, 26, 32, 44, 50, 56, 62, 68, 78, 84, 90, 96, 102, 116, 122, 128, 134, 140, 152, 158,
     164, 170, 176, 200, 206, 212, 236, 242, 248, 258, 264, 270, 276, 282, 294, 300, 306, 312, 318,
     330, 336, 342, 348, 354, 366, 372, 378, 384, 390, 402, 408, 414, 420, 426, 438, 444, 450, 456,

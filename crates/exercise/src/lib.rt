@@ -7,21 +7,25 @@ ghost use Rattle.std.specs.Prelude.{◌≡◌, ◌/◌, ◌%◌, length, pos, �
 ghost use Rattle.definition.specs.Memory.{cell_count};
 ghost use Rattle.definition.specs.Encoding.{tag_of};
 ghost use Rattle.definition.specs.Calls.{called};
-ghost use Rattle.exercise.specs.Exercise.{next_state, draw, forms, form_of, register, number, cell_of, made, exercise};
+ghost use Rattle.definition.specs.Answers.{counted_of};
+ghost use Rattle.exercise.specs.Exercise.{next_state, draw, form_of, register, number, cell_of, third_state, cell_from, made, exercise};
 
+use definition::answers::{Refusal, check};
 use definition::{Cell, Counted};
+use forms::FORMS;
 
 // "state times 6364136223846793005 plus 1442695040888963407 modulo 2^64 gives the next state"
+#[tactic(auto, unfolding(crate::specs::Exercise::next_state))]
 pub fn next_state(state: u64) -> u64
     ensures { result ≡ next_state state }
 {
-    std::num::wrapping_add_u64(
-        word::wrapping_mul(state, 6364136223846793005),
-        1442695040888963407,
-    )
+    state
+        .wrapping_mul(6364136223846793005)
+        .wrapping_add(1442695040888963407)
 }
 
 // "whose upper 32 bits are the draw"
+#[tactic(auto, unfolding(crate::specs::Exercise::draw))]
 pub fn draw(state: u64) -> u32
     ensures { result ≡ draw state }
 {
@@ -29,25 +33,33 @@ pub fn draw(state: u64) -> u32
 }
 
 // "the first modulo 124 picks the form"
-pub fn form_of(table: &[u32; 124], d: u32) -> u32
-    requires { table.now ≡ forms }
+pub fn form_of(d: u32) -> u32
     ensures { result ≡ form_of d }
 {
-    table[(d % 124) as usize]
+    FORMS[(d % 124) as usize]
 }
 
 // A register, "0 where unused".
+#[tactic(auto, unfolding(crate::specs::Exercise::register))]
 pub fn register(m: u32, r: u32) -> u32
     ensures { result ≡ register m r }
 {
     if encoding::register_fits(m, r) { r } else { 0 }
 }
 
+// 1 for a mode that holds a number. Of an `if` the compiler makes a jump, which no draw foretells: a cell then takes twice the time, and fewer than 50
+// million are made a second.
+static NUMBERS: [i64; 6] = [0, 1, 0, 1, 0, 1];
+
 // A number in its place, 0 where the mode holds none.
+#[tactic(auto, unfolding(crate::specs::Exercise::number, definition::specs::Encoding::number_fits))]
 pub fn number(m: u32, w: i64) -> i64
     ensures { result ≡ number m w }
 {
-    if encoding::number_fits(m, w) { w } else { 0 }
+    if m > 5 || m == 3 && !word::is_address(w) {
+        return 0;
+    }
+    w * NUMBERS[m as usize]
 }
 
 // The tag of the entry k with two registers.
@@ -58,11 +70,11 @@ pub fn tag_of(k: u32, r1: u32, r2: u32) -> i64
 }
 
 // "Three draws make a cell"
-pub fn cell_of(table: &[u32; 124], d1: u32, d2: u32, d3: u32) -> Cell
-    requires { table.now ≡ forms }
+#[tactic(auto, unfolding(crate::specs::Exercise::cell_of))]
+pub fn cell_of(d1: u32, d2: u32, d3: u32) -> Cell
     ensures { result ≡ cell_of d1 d2 d3 }
 {
-    let k = form_of(table, d1);
+    let k = form_of(d1);
     let m1 = k / 6 % 6;
     let m2 = k % 6;
     let r1 = register(m1, d2 % 5);
@@ -75,20 +87,38 @@ pub fn cell_of(table: &[u32; 124], d1: u32, d2: u32, d3: u32) -> Cell
     }
 }
 
-fn fill(table: &[u32; 124], image: &mut [i64], seed: u64)
-    requires { (table.now ≡ forms) × (length image.old % 3 ≡ 0) }
+// The draws, one after another.
+#[derive(Drop)]
+struct Draws {
+    state: u64,
+}
+
+impl Draws {
+    fn next(&mut self) -> u32
+        ensures state { self.new.state ≡ next_state self.old.state }
+        ensures value { result ≡ draw self.new.state }
+    {
+        self.state = next_state(self.state);
+        draw(self.state)
+    }
+
+    #[tactic(auto, unfolding(crate::specs::Exercise::cell_from))]
+    fn next_cell(&mut self) -> Cell
+        ensures state { self.new.state ≡ third_state self.old.state }
+        ensures value { result ≡ cell_from self.old.state }
+    {
+        cell_of(self.next(), self.next(), self.next())
+    }
+}
+
+#[tactic(auto, using(crate::proofs::Made::steps))]
+fn fill(image: &mut [i64], seed: u64)
+    requires { length image.old % 3 ≡ 0 }
     ensures { image.new ≡ made (cell_count image.old) seed }
 {
-    let count = image.len() / 3;
-    let mut state = seed;
-    let mut n: usize = 0;
-    while n < count {
-        let s1 = next_state(state);
-        let s2 = next_state(s1);
-        let s3 = next_state(s2);
-        memory::put_cell(image, n, cell_of(table, draw(s1), draw(s2), draw(s3)));
-        state = s3;
-        n += 1;
+    let mut draws = Draws { state: seed };
+    for n in 0..image.len() / 3 {
+        memory::put_cell(image, n, draws.next_cell());
     }
 }
 
@@ -99,23 +129,19 @@ pub fn is_whole(length: usize) -> bool
     length % 3 == 0
 }
 
+// Fills the image, and answers how many cells it has.
+#[tactic(auto, unfolding(crate::specs::Exercise::exercise, crate::specs::Exercise::exercise_check, definition::specs::Calls::verdict))]
+fn filled(image: &mut [i64], seed: u64) -> Result<u64, Refusal>
+    ensures { called (counted_of result) image.new ≡ exercise image.old seed }
+{
+    check(is_whole(image.len()), Refusal::Image)?;
+    fill(image, seed);
+    Ok((image.len() / 3) as u64)
+}
+
 // "A lent image is filled from a 64-bit seed"
 pub fn exercise(image: &mut [i64], seed: u64) -> Counted
     ensures { called result image.new ≡ exercise image.old seed }
 {
-    let cells = image.len() / 3;
-    if is_whole(image.len()) {
-        let table = &forms::FORMS;
-        fill(table, image, seed);
-        return Counted {
-            refusal: 0,
-            place: 0,
-            count: cells as u64,
-        };
-    }
-    Counted {
-        refusal: 9,
-        place: 0,
-        count: 0,
-    }
+    Counted::from(filled(image, seed))
 }

@@ -48,7 +48,7 @@ shorter u h e = rw (sym (rest_of e)) h
 
 module _ {X : Type 0} (L : Level X) (f : List ℕ → Outcome X) (shrinks : Shrinks f) (ends : L.joins 0 ≡ false) where
   -- after an operator the text is shorter
-  operand-length : (t : List ℕ) (y : X) (r : List ℕ) → L.joins (head t) ≡ true → f (skip (tail t)) ≡ gives y r → length r < length t
+  pub operand-length : (t : List ℕ) (y : X) (r : List ℕ) → L.joins (head t) ≡ true → f (skip (tail t)) ≡ gives y r → length r < length t
   unfolding head tail
   operand-length [] y r h e = clash h ends
   operand-length (b ∷ t) y r h e =
@@ -96,6 +96,10 @@ module _ {X : Type 0} (L : Level X) (f : List ℕ → Outcome X) (shrinks : Shri
       let a = shrinks t m.value m.text m.first in
       let b = chain-shrinks (length m.text) m.value m.text y r m.second in
       omega arith
+
+pub letter-ends : is_letter 0 ≡ false
+unfolding is_letter
+letter-ends = refl
 
 pub star-ends : is_star 0 ≡ false
 unfolding is_star

@@ -1,27 +1,29 @@
 -- What the code's steps make of a text. Assumes nothing.
-use mathlib.Core.Path.{◌≡◌, refl, sym, ap, ◌∙◌, subst}
+use mathlib.Core.Path.{◌≡◌, refl, sym, ap, ◌∙◌}
 use mathlib.Core.Bool.{Bool, true, false}
 use mathlib.Core.List.{List, [], ◌∷◌}
+use mathlib.Core.Option.{Option}
 use Prim.Native.Nat.{ℕ, zero, suc, ◌+◌, ◌*◌, ◌-◌, ◌≤◌, ◌<◌}
 use native.Mathlib.Omega.{arith}
 use lib.IntN.{pos, neg_ℤ}
-use lib.ListN.{length, drop}
-use lib.Dec.{eqb}
+use lib.ListN.{length, get_or}
+use lib.Dec.{eqb, leb}
 use borrow.Author.Tests.{le-leb, lt-leb, lt-ltb, le-ltb, eqb-true, eq-eqb, ne_eqb}
+use Rattle.std.specs.Prelude.{Some, None}
 use Rattle.decimal.proofs.Laws.{value-minus}
-use Rattle.expression.specs.declared.Value.{Value}
 use Rattle.definition.specs.Word.{is_word}
 use Rattle.word.proofs.Laws.{ltb-elim}
-use Rattle.expression.specs.declared.Reading.{Reading}
-use Rattle.expression.specs.declared.Reading.TheVariants as R
-use Rattle.expression.specs.Reader.{Outcome, gives, refused, then, head, tail, front, past, is_space, is_digit, is_letter, skip, decimal, signed, Level, product_level, sum_level, chained, links, numbered, labelled, closed, atom_with, product_with, sum_with, within, read_sum, read_product, read_atom}
-use mathlib.Core.Option.{Option}
+use Rattle.expression.specs.declared.Value.{Value}
+use Rattle.expression.specs.declared.Operator.{Operator}
+use Rattle.expression.specs.declared.Operator.TheVariants.{Times, Plus, Minus}
+use Rattle.expression.specs.declared.Level as C
+use Rattle.expression.specs.declared.Level.TheVariants.{Sum, Product}
+use Rattle.expression.specs.Reader.{Outcome, gives, refused, then, head, tail, front, past, is_digit, is_letter, skip, decimal, signed, is_star, is_sign, Level, chained, links, numbered, labelled, closed, atom_with, product_with, sum_with, within, read_sum, read_product, read_atom}
 use Rattle.expression.specs.Values.{values, no_labels, number_value, label_value, place_value}
-use Rattle.expression.specs.Code.{Read, Place, Made, told, Forward, Onward, follows, Ahead, OperandAt, stepped, capped, cap_step, value_of, cap_decimal, sized_value}
-use Rattle.expression.proofs.Spans.{by_bool, clash, every, every-head, every-tail, front-every}
-use Rattle.expression.proofs.Chain.{Shrinks, chained-step}
+use Rattle.expression.specs.Code.{after, capped, cap_step, value_of, cap_decimal, sized_value, operator_of, operator_at, level_of, operand_of, join_of}
+use Rattle.expression.proofs.Spans.{by_bool, every, every-head, every-tail, front-every, first-is}
+use Rattle.expression.proofs.Chain.{Shrinks, never, rest_of, value_of as given_of, then_same, operand-length, chained-step, star-ends, sign-ends, read_atom-shrinks, read_product-shrinks}
 use Rattle.expression.proofs.Sound.{digit-bounds}
-use Rattle.expression.proofs.Places.{tail-drop, inside, run_length}
 
 -- ---- numbers
 
@@ -77,46 +79,21 @@ run_value : (m : Bool) (t : List ℕ) → sized_value m (cap_decimal 0 (front is
 unfolding capped
 run_value m t = ap (sized_value m) (cap-decimal (front is_digit t) 0 (front-every is_digit t)) ∙ sized-is m (decimal 0 (front is_digit t))
 
-skip-after : (s : List ℕ) (at to n : ℕ) (p : ℕ → Bool) → Place s at to (past p (drop at s)) → Place s to n (past is_space (drop to s)) → drop n s ≡ skip (past p (drop at s))
-skip-after s at to n p h k = k.text ∙ ap skip h.text
-
-pub number_read : (s : List ℕ) (at : ℕ) (m : Bool) (size to n : ℕ) (x : Value) → is_digit (head (drop at s)) ≡ true → size ≡ cap_decimal 0 (front is_digit (drop at s)) → Place s at to (past is_digit (drop at s)) → Place s to n (past is_space (drop to s)) → x ≡ sized_value m size → Read s at (numbered (values no_labels) m (drop at s)) (R.Is x n)
+pub number_is : (m : Bool) (t : List ℕ) → is_digit (head t) ≡ true → gives (sized_value m (cap_decimal 0 (front is_digit t))) (skip (past is_digit t)) ≡ numbered (values no_labels) m t
 unfolding numbered
-number_read s at m size to n x d z h k e =
-    let a = h.on in let b = k.on in let c = k.within in
-    let v : x ≡ number_value (signed m (decimal 0 (front is_digit (drop at s)))) = e ∙ (ap (sized_value m) z ∙ run_value m (drop at s)) in
-    record { same = rw (d, v, skip-after s at to n is_digit h k); on = (omega arith, c) }
+number_is m t d = rw (d, run_value m t)
 
-pub number-none : (s : List ℕ) (at : ℕ) (m : Bool) → is_digit (head (drop at s)) ≡ false → Read s at (numbered (values no_labels) m (drop at s)) R.Not
+pub number-none : (m : Bool) (t : List ℕ) → is_digit (head t) ≡ false → refused ≡ numbered (values no_labels) m t
 unfolding numbered
-number-none s at m d = record { same = rw d; on = tt }
+number-none m t d = rw d
 
-pub label-read : (p : List ℕ → Option ℕ) (s : List ℕ) (at to n : ℕ) (w : Value) → w ≡ place_value (p (front is_letter (drop at s))) → to - at ≤ 16 → Place s at to (past is_letter (drop at s)) → Place s to n (past is_space (drop to s)) → Read s at (labelled (values p) (drop at s)) (R.Is w n)
+pub label_is : (p : List ℕ → Option ℕ) (t : List ℕ) → length (front is_letter t) ≤ 16 → gives (place_value (p (front is_letter t))) (skip (past is_letter t)) ≡ labelled (values p) t
 unfolding labelled label_value
-label-read p s at to n w v l h k =
-    let a = h.on in let b = k.on in let c = k.within in
-    record { same = rw (run_length is_letter s at to h.on h.within h.text, le-leb (to - at) 16 l, v, skip-after s at to n is_letter h k); on = (omega arith, c) }
+label_is p t h = rw (le-leb (length (front is_letter t)) 16 h)
 
-pub label-none : (p : List ℕ → Option ℕ) (s : List ℕ) (at to : ℕ) → 16 < to - at → Place s at to (past is_letter (drop at s)) → Read s at (labelled (values p) (drop at s)) R.Not
+pub label-none : (p : List ℕ → Option ℕ) (t : List ℕ) → 16 < length (front is_letter t) → refused ≡ labelled (values p) t
 unfolding labelled
-label-none p s at to l h = record { same = rw (run_length is_letter s at to h.on h.within h.text, lt-leb (to - at) 16 l); on = tt }
-
--- ---- readings
-
-pub read_as : {s : List ℕ} {at : ℕ} {o p : Outcome Value} {r : Reading} → o ≡ p → Read s at o r → Read s at p r
-read_as e h = record { same = h.same ∙ e; on = h.on }
-
-forward-from : (s : List ℕ) (at k : ℕ) (r : Reading) → k ≤ at → Forward at s r → Forward k s r
-forward-from s at k (R.Is x n) h f = (omega arith, f.1)
-forward-from s at k R.Not h f = tt
-
-pub read-zero : {s : List ℕ} {at : ℕ} {o : Outcome Value} {r : Reading} → Read s at o r → Forward 0 s r
-read-zero {s} {at} {o} {r} h = forward-from s at 0 r (omega arith) h.on
-
-pub forward-onward : (s : List ℕ) (at : ℕ) (q r : Reading) → Forward at s q → Onward s q r → Forward at s r
-forward-onward s at (R.Is x n) r f o = forward-from s n at r f.0 o
-forward-onward s at R.Not (R.Is x n) f o = absurd o
-forward-onward s at R.Not R.Not f o = tt
+label-none p t h = rw (lt-leb (length (front is_letter t)) 16 h)
 
 -- an atom by its first byte
 module _ (p : List ℕ → Option ℕ) (t : List ℕ) where
@@ -147,101 +124,175 @@ module _ (p : List ℕ → Option ℕ) (t : List ℕ) where
       let z : suc k - 1 ≡ k = omega arith in
       rw (z, eqb-true (head t) 40 e)
 
-pub minus-read : (p : List ℕ → Option ℕ) (s : List ℕ) (at : ℕ) (r : Reading) → is_digit (head (drop at s)) ≡ false → is_letter (head (drop at s)) ≡ false → head (drop at s) ≡ 45 → Read s (at + 1) (numbered (values no_labels) true (drop (at + 1) s)) r → Read s at (read_atom (values p) 0 (drop at s)) r
-minus-read p s at r d l e h =
-    record { same = h.same ∙ (ap (numbered (values no_labels) true) (sym (tail-drop s at)) ∙ leaf-minus p (drop at s) d l e); on = forward-from s (at + 1) at r (omega arith) h.on }
+-- ---- texts by their first byte
 
-pub close-none : (s : List ℕ) (r : Reading) → r ≡ R.Not → Made s r (then (told s r) (closed (values no_labels))) R.Not
-unfolding then
-close-none s r e = rw e (record { same = refl; on = tt })
+pub after-first : (b : ℕ) (t : List ℕ) → 1 ≤ length t → get_or t 0 0 ≡ b → Some (skip (tail t)) ≡ after b t
+unfolding after tail
+after-first b [] l e = absurd (omega arith)
+after-first b (a ∷ t) l e = rw (eq-eqb a b e)
 
-pub close-is : (s : List ℕ) (r : Reading) (x : Value) (n to : ℕ) → r ≡ R.Is x n → head (drop n s) ≡ 41 → Place s (n + 1) to (past is_space (drop (n + 1) s)) → Made s r (then (told s r) (closed (values no_labels))) (R.Is x to)
-unfolding then closed
-close-is s r x n to e h k =
-    let a = k.on in let b = k.within in
-    rw e (record { same = rw (eq-eqb (head (drop n s)) 41 h, tail-drop s n, k.text); on = (omega arith, b) })
+pub after-empty : (b : ℕ) (t : List ℕ) → length t < 1 → None ≡ after b t
+unfolding after
+after-empty b [] l = refl
+after-empty b (a ∷ t) l = absurd (omega arith)
 
-pub close_other : (s : List ℕ) (r : Reading) (x : Value) (n : ℕ) → r ≡ R.Is x n → (head (drop n s) ≡ 41 → ⊥) → Made s r (then (told s r) (closed (values no_labels))) R.Not
-unfolding then closed
-close_other s r x n e h = rw e (record { same = rw (ne_eqb (head (drop n s)) 41 h); on = tt })
+pub after_other : (b : ℕ) (t : List ℕ) → (get_or t 0 0 ≡ b → ⊥) → None ≡ after b t
+unfolding after
+after_other b [] e = refl
+after_other b (a ∷ t) e = rw (ne_eqb a b e)
 
--- in brackets
-pub atom-read : (p : List ℕ → Option ℕ) (s : List ℕ) (at d m : ℕ) (q r : Reading) → 0 < d → eqb (head (drop at s)) 40 ≡ true → Place s (at + 1) m (past is_space (drop (at + 1) s)) → Read s m (read_sum (values p) (d - 1) (drop m s)) q → Made s q (then (told s q) (closed (values no_labels))) r → Read s at (read_atom (values p) d (drop at s)) r
-atom-read p s at d m q r z e k h c =
-    let a = k.on in
-    let g : skip (tail (drop at s)) ≡ drop m s = ap skip (tail-drop s at) ∙ sym k.text in
-    record {
-      same = c.same ∙ (ap (λ (o : Outcome Value). then o (closed (values no_labels))) (h.same ∙ ap (read_sum (values p) (d - 1)) (sym g)) ∙ atom-opens p (drop at s) d z e);
-      on = forward-from s m at r (omega arith) (forward-onward s m q r h.on c.on);
-    }
+pub no-digit-below : (t : List ℕ) → get_or t 0 0 < 48 → is_digit (head t) ≡ false
+unfolding is_digit
+no-digit-below t h = rw (← first-is t, lt-leb 48 (get_or t 0 0) h)
 
--- ---- the loops
+pub no-digit-past : (t : List ℕ) → 58 ≤ get_or t 0 0 → is_digit (head t) ≡ false
+unfolding is_digit
+no-digit-past t h = rw (← first-is t, lt-leb (get_or t 0 0) 57 (omega arith)) (by_bool (leb 48 (get_or t 0 0)) (λ e. rw e) (λ e. rw e))
 
-pub ahead_of : (p : ℕ → Bool) → p 0 ≡ false → (s : List ℕ) (r : Reading) → follows p s r ≡ true → Ahead s r
-ahead_of p z s (R.Is x n) h = inside p z s n h
-ahead_of p z s R.Not h = tt
+pub no-digit-in-empty : (t : List ℕ) → length t < 1 → is_digit (head t) ≡ false
+unfolding is_digit head
+no-digit-in-empty [] h = refl
+no-digit-in-empty (b ∷ t) h = absurd (omega arith)
 
-pub operand_in : (p : ℕ → Bool) (s : List ℕ) (r : Reading) (m : ℕ) → follows p s r ≡ true → OperandAt s r m → m ≤ length s
-operand_in p s (R.Is x n) m h k = k.within
-operand_in p s R.Not m h k = clash h refl
+pub digit-first : (t : List ℕ) → 48 ≤ get_or t 0 0 → get_or t 0 0 < 58 → is_digit (head t) ≡ true
+unfolding is_digit
+digit-first t h l = rw (← first-is t, le-leb 48 (get_or t 0 0) h, le-leb (get_or t 0 0) 57 (omega arith))
 
--- what is left of the text
-abbrev pub left : List ℕ → Reading → ℕ
-left s (R.Is x n) = suc (length s - n)
-left s R.Not = 0
+pub operator-first : (l : C.Level) (s : List ℕ) (b : ℕ) (t : List ℕ) (o : Operator) → s ≡ b ∷ t → operator_of l b ≡ Some o → gives o (skip t) ≡ operator_at l s
+unfolding operator_at
+operator-first l s b t o e f = rw (e, f)
 
-pub left_less : (p : ℕ → Bool) → p 0 ≡ false → (s : List ℕ) (m : ℕ) (r q u : Reading) → follows p s r ≡ true → OperandAt s r m → Forward m s q → Onward s q u → left s u < left s r
-left_less p z s m (R.Is x n) (R.Is y k) (R.Is w i) h o f g = let a = o.on in let b = inside p z s n h in omega arith
-left_less p z s m (R.Is x n) (R.Is y k) R.Not h o f g = omega arith
-left_less p z s m (R.Is x n) R.Not (R.Is w i) h o f g = absurd g
-left_less p z s m (R.Is x n) R.Not R.Not h o f g = omega arith
-left_less p z s m R.Not q u h o f g = clash h refl
+pub operator-none : (l : C.Level) (s : List ℕ) (b : ℕ) (t : List ℕ) → s ≡ b ∷ t → operator_of l b ≡ None → refused ≡ operator_at l s
+unfolding operator_at
+operator-none l s b t e f = rw (e, f)
 
-pub forward-on : (p : ℕ → Bool) (s : List ℕ) (at m : ℕ) (r q u : Reading) → follows p s r ≡ true → Forward at s r → OperandAt s r m → Forward m s q → Onward s q u → Forward at s u
-forward-on p s at m (R.Is x n) q u h f o g k =
-    let a = o.on in let b = f.0 in
-    forward-from s m at u (omega arith) (forward-onward s m q u g k)
-forward-on p s at m R.Not q u h f o g k = clash h refl
+pub operator-empty : (l : C.Level) (t : List ℕ) → length t ≡ 0 → refused ≡ operator_at l t
+unfolding operator_at
+operator-empty l [] h = refl
+operator-empty l (b ∷ t) h = absurd (omega arith)
 
-abbrev pub chain-of : Level Value → (List ℕ → Outcome Value) → Outcome Value → Outcome Value
-chain-of L f o = then o (λ x t. chained L f x t)
+pub no-letter-below : (t : List ℕ) → get_or t 0 0 < 97 → is_letter (head t) ≡ false
+unfolding is_letter
+no-letter-below t h = rw (← first-is t, lt-leb 97 (get_or t 0 0) h)
 
-module _ (L : Level Value) (f : List ℕ → Outcome Value) (shrinks : Shrinks f) (ends : L.joins 0 ≡ false) where
-  outcome-more : (x : Value) (t : List ℕ) (o : Outcome Value) → L.joins (head t) ≡ true → f (skip (tail t)) ≡ o → chain-of L f (stepped L (gives x t) o) ≡ chain-of L f (gives x t)
-  unfolding then stepped
-  outcome-more x t (gives y u) j e = rw (chained-step L f shrinks ends x t, j, e)
-  outcome-more x t refused j e = rw (chained-step L f shrinks ends x t, j, e)
+pub no-letter-past : (t : List ℕ) → 123 ≤ get_or t 0 0 → is_letter (head t) ≡ false
+unfolding is_letter
+no-letter-past t h = rw (← first-is t, lt-leb (get_or t 0 0) 122 (omega arith)) (by_bool (leb 97 (get_or t 0 0)) (λ e. rw e) (λ e. rw e))
 
-  pub loop-more : (s : List ℕ) (m : ℕ) (r q u : Reading) → follows L.joins s r ≡ true → OperandAt s r m → Read s m (f (drop m s)) q → Made s q (stepped L (told s r) (told s q)) u → chain-of L f (told s u) ≡ chain-of L f (told s r)
-  loop-more s m (R.Is x n) q u h o k c =
-      ap (chain-of L f) c.same ∙ outcome-more x (drop n s) (told s q) h (ap f (sym o.text) ∙ sym k.same)
-  loop-more s m R.Not q u h o k c = clash h refl
+pub letter-first : (t : List ℕ) → 97 ≤ get_or t 0 0 → get_or t 0 0 < 123 → is_letter (head t) ≡ true
+unfolding is_letter
+letter-first t h l = rw (← first-is t, le-leb 97 (get_or t 0 0) h, le-leb (get_or t 0 0) 122 (omega arith))
 
-  pub loop-stop : (s : List ℕ) (r : Reading) → follows L.joins s r ≡ false → told s r ≡ chain-of L f (told s r)
-  unfolding then
-  loop-stop s (R.Is x n) h = sym (chained-step L f shrinks ends x (drop n s) ∙ rw h)
-  loop-stop s R.Not h = refl
+pub leaf_other : (p : List ℕ → Option ℕ) (t : List ℕ) → is_digit (head t) ≡ false → is_letter (head t) ≡ false → (get_or t 0 0 ≡ 45 → ⊥) → refused ≡ read_atom (values p) 0 t
+leaf_other p t d l e = leaf-none p t d l (λ z. e (first-is t ∙ z))
 
-pub product-starts : (p : List ℕ → Option ℕ) (d : ℕ) (t : List ℕ) (o : Outcome Value) → o ≡ read_atom (values p) d t → chain-of (product_level (values p)) (read_atom (values p) d) o ≡ read_product (values p) d t
-unfolding read_product product_with links read_atom
-product-starts p d t o e = rw e
+-- ---- brackets
 
-pub sum-starts : (p : List ℕ → Option ℕ) (d : ℕ) (t : List ℕ) (o : Outcome Value) → o ≡ read_product (values p) d t → chain-of (sum_level (values p)) (read_product (values p) d) o ≡ read_sum (values p) d t
-unfolding read_sum sum_with links read_product
-sum-starts p d t o e = rw e
+pub opens : (b : ℕ) (t u : List ℕ) → Some u ≡ after b t → (eqb (head t) b ≡ true) × (u ≡ skip (tail t))
+unfolding after head tail
+opens b [] u e = absurd (none_some (sym e))
+  where
+    none_some : {u : List ℕ} → None ≡ Some u → ⊥
+    none_some e = cc
+opens b (a ∷ t) u e =
+    by_bool (eqb a b) (λ h. let f : Some u ≡ Some (skip t) = rw h at e in (h, the_text f)) (λ h. absurd (none_some (rw h at e)))
+  where
+    the_text : {u v : List ℕ} → Some u ≡ Some v → u ≡ v
+    the_text e = cc
 
--- joining
-pub step-none : (L : Level Value) (s : List ℕ) (r q : Reading) → r ≡ R.Not → Made s q (stepped L (told s r) (told s q)) R.Not
-unfolding stepped then
-step-none L s r (R.Is y m) e = rw e (record { same = refl; on = tt })
-step-none L s r R.Not e = rw e (record { same = refl; on = tt })
+    none_some : {u : List ℕ} → Some u ≡ None → ⊥
+    none_some e = cc
 
-pub step-nothing : (L : Level Value) (s : List ℕ) (r q : Reading) (x : Value) (n : ℕ) → r ≡ R.Is x n → q ≡ R.Not → Made s q (stepped L (told s r) (told s q)) R.Not
-unfolding stepped then
-step-nothing L s r q x n e f = rw (e, f) (record { same = refl; on = tt })
+pub shuts : (b : ℕ) (t : List ℕ) → eqb 0 b ≡ false → None ≡ after b t → eqb (head t) b ≡ false
+unfolding after head
+shuts b [] z e = z
+shuts b (a ∷ t) z e =
+    by_bool (eqb a b) (λ h. absurd (none_some (rw h at e))) (λ h. h)
+  where
+    none_some : {u : List ℕ} → None ≡ Some u → ⊥
+    none_some e = cc
 
-pub step_is : (L : Level Value) (s : List ℕ) (r q : Reading) (x y w : Value) (n m : ℕ) → r ≡ R.Is x n → q ≡ R.Is y m → Forward 0 s q → w ≡ L.join (head (drop n s)) x y → Made s q (stepped L (told s r) (told s q)) (R.Is w m)
-unfolding stepped then
-step_is L s r q x y w n m e f k h =
-    let g : m ≤ length s = (subst (Forward 0 s) f k).1 in
-    rw (e, f, h) (record { same = refl; on = (omega arith, g) })
+pub closed_is : (x : Value) (r u : List ℕ) → Some u ≡ after 41 r → gives x u ≡ closed (values no_labels) x r
+unfolding closed
+closed_is x r u e = let o = opens 41 r u e in rw (o.0, o.1)
+
+pub closed-none : (x : Value) (r : List ℕ) → None ≡ after 41 r → refused ≡ closed (values no_labels) x r
+unfolding closed
+closed-none x r e = rw (shuts 41 r refl e)
+
+module _ (p : List ℕ → Option ℕ) (d : ℕ) (t : List ℕ) where
+  pub sum-links : links (level_of (values no_labels) Sum) (operand_of (values p) Sum d) t ≡ read_sum (values p) d t
+  unfolding read_sum sum_with read_product
+  sum-links = refl
+
+  pub product-links : links (level_of (values no_labels) Product) (operand_of (values p) Product d) t ≡ read_product (values p) d t
+  unfolding read_product product_with read_atom
+  product-links = refl
+
+module _ (p : List ℕ → Option ℕ) (d : ℕ) (t : List ℕ) where
+  pub atom-brackets : (u : List ℕ) (o : Outcome Value) → 0 < d → Some u ≡ after 40 t → o ≡ links (level_of (values no_labels) Sum) (operand_of (values p) Sum (d - 1)) u → then o (closed (values no_labels)) ≡ read_atom (values p) d t
+  atom-brackets u o z e f =
+      let k = opens 40 t u e in
+      ap (λ (q : Outcome Value). then q (closed (values no_labels))) (f ∙ sum-links p (d - 1) u ∙ ap (read_sum (values p) (d - 1)) k.1) ∙ atom-opens p t d z k.0
+
+  pub atom-bare : None ≡ after 40 t → read_atom (values p) 0 t ≡ read_atom (values p) d t
+  atom-bare e = atom-leaf p t d (shuts 40 t refl e)
+
+-- ---- the loop
+
+operates : (l : C.Level) (t : List ℕ) (o : Operator) (u : List ℕ) → operator_at l t ≡ gives o u → ((level_of (values no_labels) l).joins (head t) ≡ true) × (u ≡ skip (tail t)) × ((x y : Value) → (level_of (values no_labels) l).join (head t) x y ≡ join_of o x y)
+unfolding operator_at operator_of head tail is_star is_sign
+operates l [] o u e = never e
+operates Product (b ∷ t) o u e =
+    by_bool (eqb b 42)
+    (λ h. let f : gives Times (skip t) ≡ gives o u = rw h at e in (h, sym (rest_of f), λ x y. ap (λ (q : Operator). join_of q x y) (given_of f)))
+    (λ h. never (rw h at e))
+operates Sum (b ∷ t) o u e =
+    by_bool (eqb b 43)
+    (λ h. let f : gives Plus (skip t) ≡ gives o u = rw h at e in (rw h refl, sym (rest_of f), λ x y. rw h (ap (λ (q : Operator). join_of q x y) (given_of f))))
+    (λ h. by_bool (eqb b 45)
+    (λ i. let f : gives Minus (skip t) ≡ gives o u = rw (h, i) at e in (rw (h, i) refl, sym (rest_of f), λ x y. rw h (ap (λ (q : Operator). join_of q x y) (given_of f))))
+    (λ i. never (rw (h, i) at e)))
+
+stops : (l : C.Level) (t : List ℕ) → refused ≡ operator_at l t → (level_of (values no_labels) l).joins (head t) ≡ false
+unfolding operator_at operator_of head is_star is_sign
+stops Product [] e = refl
+stops Sum [] e = refl
+stops Product (b ∷ t) e = by_bool (eqb b 42) (λ h. never (rw h at e)) (λ h. h)
+stops Sum (b ∷ t) e =
+    by_bool (eqb b 43) (λ h. never (rw h at e)) (λ h.
+    by_bool (eqb b 45) (λ i. never (rw (h, i) at e)) (λ i. rw (h, i) refl))
+
+ends : (l : C.Level) → (level_of (values no_labels) l).joins 0 ≡ false
+ends Sum = sign-ends
+ends Product = star-ends
+
+shrinks : (p : List ℕ → Option ℕ) (l : C.Level) (d : ℕ) → Shrinks (operand_of (values p) l d)
+shrinks p Sum d = read_product-shrinks (values p) d
+shrinks p Product d = read_atom-shrinks (values p) d
+
+module _ (p : List ℕ → Option ℕ) (l : C.Level) (d : ℕ) where
+  abbrev pub L : Level Value
+  L = level_of (values no_labels) l
+
+  abbrev pub f : List ℕ → Outcome Value
+  f = operand_of (values p) l d
+
+  pub links-first : (t : List ℕ) (o : Outcome Value) → o ≡ f t → then o (λ x r. chained L f x r) ≡ links L f t
+  unfolding links
+  links-first t o e = rw e
+
+  pub links-more : (x : Value) (t u : List ℕ) (o : Operator) (q : Outcome Value) → gives o u ≡ operator_at l t → q ≡ f u → then q (λ y r. chained L f (join_of o x y) r) ≡ chained L f x t
+  links-more x t u o q e g =
+      let k = operates l t o u (sym e) in
+      ap (λ (z : Outcome Value). then z (λ y r. chained L f (join_of o x y) r)) (g ∙ ap f k.1)
+      ∙ (then_same (f (skip (tail t))) (λ y r. chained L f (join_of o x y) r) (λ y r. chained L f (L.join (head t) x y) r) (λ y r h. ap (λ (z : Value). chained L f z r) (sym (k.2 x y)))
+      ∙ sym (chained-step L f (shrinks p l d) (ends l) x t ∙ rw k.0 refl))
+
+  pub links-stop : (x : Value) (t : List ℕ) → refused ≡ operator_at l t → gives x t ≡ chained L f x t
+  links-stop x t e = sym (chained-step L f (shrinks p l d) (ends l) x t ∙ rw (stops l t e) refl)
+
+  pub links-less : (t u : List ℕ) (o : Operator) (y : Value) (r : List ℕ) → gives o u ≡ operator_at l t → gives y r ≡ f u → length r < length t
+  links-less t u o y r e g =
+      let k = operates l t o u (sym e) in
+      operand-length L f (shrinks p l d) (ends l) t y r k.0 (ap f (sym k.1) ∙ sym g)

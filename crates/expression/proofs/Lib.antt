@@ -3,6 +3,6 @@ pub mod Chain
 pub mod Fused
 pub mod Sound
 pub mod Complete
-pub mod Places
 pub mod Laws
-pub mod Lookup
+pub mod Names
+pub mod Tables

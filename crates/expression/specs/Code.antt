@@ -1,60 +1,71 @@
 -- What the code's contracts cite. Assumes nothing.
-use Rattle.std.specs.Prelude.{◌≡◌, Bool, true, false, cond, List, [], ◌∷◌, ℕ, ◌+◌, ◌-◌, ◌≤◌, ◌<◌, pos, length, drop, ltb, leb}
+use Rattle.std.specs.Prelude.{◌≡◌, Bool, true, false, cond, List, [], ◌∷◌, ℕ, ◌-◌, pos, ltb, leb, eqb, Option, Some, None}
+use Rattle.std.specs.Borrow.{Bor}
+use Rattle.std.proofs.Math.Option as M
 use Rattle.expression.specs.declared.Value.{Value}
+use Rattle.expression.specs.declared.Operator.{Operator}
+use Rattle.expression.specs.declared.Operator.TheVariants.{Times, Plus, Minus}
+use Rattle.expression.specs.declared.Level as C
+use Rattle.expression.specs.declared.Level.TheVariants.{Sum, Product}
 unfoldable pub use Rattle.decimal.specs.Decimal.{cap_step, value_of}
 pub use Rattle.decimal.specs.Decimal.{limit}
-use Rattle.expression.specs.declared.Reading.{Reading}
-use Rattle.expression.specs.declared.Reading.TheVariants as R
-use Rattle.expression.specs.Values.{valued}
-use Rattle.expression.specs.Reader.{Outcome, gives, refused, then, head, tail, skip, Level}
+use Rattle.expression.specs.Values.{valued, plus_value, minus_value, times_value}
+use Rattle.expression.specs.Reader.{Algebra, Outcome, gives, refused, skip, Level, product_level, sum_level, read_product, read_atom}
 
--- What the code read of the text s, with the text after it in place of the place.
-abbrev pub told : List ℕ → Reading → Outcome Value
-told s (R.Is x n) = gives x (drop n s)
-told s R.Not = refused
+-- What a closure answers is what a test does.
+abbrev pub Answers : (ℕ → Bool → Type 0) → (ℕ → Bool) → Type 0
+Answers post p = (b : ℕ) (r : Bool) → post b r → r ≡ p b
 
-abbrev pub Forward : ℕ → List ℕ → Reading → Type 0
-Forward at s (R.Is x n) = (at ≤ n) × (n ≤ length s)
-Forward at s R.Not = Unit {0}
+-- What the code read, in the definition's words, and the text after it.
+abbrev pub read_as : {X Y : Type 0} → (X → Y) → Option (X × Bor (List ℕ)) → Outcome Y
+read_as f (Some p) = gives (f p.0) p.1.now
+read_as f None = refused
 
--- At place `at` the code reads what the definition reads there.
-pub record Read (s : List ℕ) (at : ℕ) (o : Outcome Value) (r : Reading) : Type 0 where
-  pub same : told s r ≡ o
-  pub on : Forward at s r
+abbrev pub told : {X : Type 0} → Option (X × Bor (List ℕ)) → Outcome X
+told r = read_as (λ x. x) r
 
--- n is the place of the text t, not before `at`.
-pub record Place (s : List ℕ) (at n : ℕ) (t : List ℕ) : Type 0 where
-  pub on : at ≤ n
-  pub within : n ≤ length s
-  pub text : drop n s ≡ t
+abbrev pub name_told : Option (Bor (List ℕ) × Bor (List ℕ)) → Outcome (List ℕ)
+name_told r = read_as (λ n. n.now) r
 
--- From one reading to one made of it: nothing is made of nothing, and the place is not before.
-abbrev pub Onward : List ℕ → Reading → Reading → Type 0
-Onward s (R.Is x n) r = Forward n s r
-Onward s R.Not (R.Is x n) = ⊥
-Onward s R.Not R.Not = Unit {0}
+abbrev pub place_found : Option ℕ → M.Option ℕ
+place_found (Some k) = M.some k
+place_found None = M.none
 
-pub record Made (s : List ℕ) (q : Reading) (o : Outcome Value) (r : Reading) : Type 0 where
-  pub same : told s r ≡ o
-  pub on : Onward s q r
+-- The text after a byte and the spaces after it.
+unfoldable pub after : ℕ → List ℕ → Option (List ℕ)
+after b [] = None
+after b (a ∷ t) = cond (eqb a b) (Some (skip t)) None
 
--- Whether what follows passes a test.
-abbrev pub follows : (ℕ → Bool) → List ℕ → Reading → Bool
-follows p s (R.Is x n) = p (head (drop n s))
-follows p s R.Not = false
+-- ---- operators
 
-abbrev pub Ahead : List ℕ → Reading → Type 0
-Ahead s (R.Is x n) = n < length s
-Ahead s R.Not = Unit {0}
+abbrev pub join_of : Operator → Value → Value → Value
+join_of Times x y = times_value x y
+join_of Plus x y = plus_value x y
+join_of Minus x y = minus_value x y
 
--- The place of the operand after an operator and spaces.
-abbrev pub OperandAt : List ℕ → Reading → ℕ → Type 0
-OperandAt s (R.Is x n) m = Place s (n + 1) m (skip (tail (drop n s)))
-OperandAt s R.Not m = Unit {0}
+unfoldable pub operator_of : C.Level → ℕ → Option Operator
+operator_of Product b = cond (eqb b 42) (Some Times) None
+operator_of Sum b = cond (eqb b 43) (Some Plus) (cond (eqb b 45) (Some Minus) None)
 
--- An operator has joined what was read before it and after it.
-unfoldable pub stepped : Level Value → Outcome Value → Outcome Value → Outcome Value
-stepped L o q = then o (λ x t. then q (λ y u. gives (L.join (head t) x y) u))
+abbrev pub with_rest : {X : Type 0} → Option X → List ℕ → Outcome X
+with_rest (Some x) t = gives x t
+with_rest None t = refused
+
+-- The operator of a level that a text begins with, and the text after it and spaces.
+unfoldable pub operator_at : C.Level → List ℕ → Outcome Operator
+operator_at l [] = refused
+operator_at l (b ∷ t) = with_rest (operator_of l b) (skip t)
+
+abbrev pub level_of : {X : Type 0} → Algebra X → C.Level → Level X
+level_of A Sum = sum_level A
+level_of A Product = product_level A
+
+-- What the operators of a level join.
+abbrev pub operand_of : {X : Type 0} → Algebra X → C.Level → ℕ → List ℕ → Outcome X
+operand_of A Sum d t = read_product A d t
+operand_of A Product d t = read_atom A d t
+
+-- ---- magnitudes
 
 -- A magnitude, or 2^63 + 1 where it is larger.
 unfoldable pub capped : ℕ → ℕ

@@ -33,11 +33,12 @@ use Rattle.assembly.specs.Theorems.{all_sound}
 use Rattle.assembly.proofs.Cells.{cells-sound, cells_fit}
 use Rattle.lines.specs.declared.Reader.{Reader}
 use Rattle.lines.specs.declared.Start.{Start}
-use Rattle.lines.specs.Reader.{opened, within, start_line, empty_cells}
-use Rattle.source.specs.declared.Loaded.{Loaded}
-use Rattle.source.specs.Source.{start_end, start_read, first_line, start_good, loading}
-use Rattle.source.proofs.Laws.{start-broken, start-ended, start-short}
-use Rattle.source.proofs.Lowest.{good-loading, bad-loading}
+use Rattle.lines.specs.Reader.{opened, broken, within, start_line, empty_cells}
+use Rattle.std.specs.Prelude.{Result, Ok, Err}
+use Rattle.source.specs.declared.Refused.{Refused}
+use Rattle.definition.specs.declared.answers.Refusal.TheVariants.{ImageLine}
+use Rattle.source.specs.Source.{start_end, start_read, first_line, start_good, refused, judged, loaded, loading}
+use Rattle.source.proofs.Lowest.{call, number, good-loading, bad-loading}
 use Rattle.image_run.specs.Image.{image_row, image_run}
 
 abbrev start_of : ℤ → ℤ → ℤ → Start
@@ -77,6 +78,19 @@ line-in r h b =
     by_bool (x && y)
     (λ e. let p = both x y e in rw e (record { pc_a = p.0; sp_a = p.1 }))
     (λ e. clash refl (rw e at b))
+
+module _ (r : Reader) where
+  start-broken : r.broken ≡ true → r ≡ start_end r
+  unfolding start_end
+  start-broken b = rw b
+
+  start-ended : r.broken ≡ false → (r.field.digits && eqb r.count 3) ≡ true → start_line r ≡ start_end r
+  unfolding start_end
+  start-ended b w = rw (b, w)
+
+  start-short : r.broken ≡ false → (r.field.digits && eqb r.count 3) ≡ false → broken r ≡ start_end r
+  unfolding start_end
+  start-short b w = rw (b, w)
 
 -- a start line that is taken has two addresses
 start_in : (r : Reader) → (start_end r).broken ≡ false → StartIn (start_end r).start
@@ -127,17 +141,26 @@ accepted-runs s m i a =
     ∙ ap (run_call 100000) (sym (row_is m (nat_abs s.pc) (nat_abs s.sp) s.sr))
     ∙ call-on 100000 (start_machine m (nat_abs s.pc) (nat_abs s.sp) s.sr) a
 
+loaded-start : (x : Result (Unit {0}) Refused) (r s : Start) → loaded x r ≡ Ok s → r ≡ s
+loaded-start (Ok u) r s h = cc
+loaded-start (Err e) r s h = absurd (cc)
+
+abbrev answer_of : Called (Result Start Refused) (List ℤ) → Result Start Refused
+answer_of x = x.answer
+
 -- The lines that are printed of a loaded program are those of the definition's run,
-pub loaded-runs : (t : List ℕ) → (loading t empty_cells).answer.refusal ≡ 0 → let l = loading t empty_cells in let s = l.answer.start in image_run l.left (image_row s) ≡ ran (run 100000 (start_machine l.left (nat_abs s.pc) (nat_abs s.sp) s.sr))
-loaded-runs t h =
+pub loaded-runs : (t : List ℕ) (s : Start) → (loading t empty_cells).answer ≡ Ok s → let l = (loading t empty_cells).left in image_run l (image_row s) ≡ ran (run 100000 (start_machine l (nat_abs s.pc) (nat_abs s.sp) s.sr))
+loaded-runs t s h =
     by_bool (start_good t)
     (λ e. let g = good-loading t e in
+    let r = (start_read (first_line t)).start in
     let i = good_start t e in
     let x = assemble 2048 (next_line t) in
-    rw g (accepted-runs (start_read (first_line t)).start (answered x empty_cells).left i (start-accepted (start_read (first_line t)).start (answered x empty_cells).left i (λ r. left-accepted r x (λ vs k. (cells-sound 2048 (next_line t) vs k, cells_fit 2048 (next_line t) vs k))))))
-    (λ e. absurd (let y : ◌≡◌ {A = ℕ} 12 0 = ap (λ (c : Called Loaded (List ℤ)). c.answer.refusal) (sym (bad-loading t e)) ∙ h in omega arith))
+    let z = loaded-start (judged (call t) (number t)) r s (ap answer_of (sym g) ∙ h) in
+    rw (g, ← z) (accepted-runs r (answered x empty_cells).left i (start-accepted r (answered x empty_cells).left i (λ q. left-accepted q x (λ vs k. (cells-sound 2048 (next_line t) vs k, cells_fit 2048 (next_line t) vs k))))))
+    (λ e. absurd (let y : Err (refused (ImageLine 1)) ≡ Ok s = ap answer_of (sym (bad-loading t e)) ∙ h in cc))
 
 -- so that run refuses nothing.
-pub loaded-accepted : (t : List ℕ) → (loading t empty_cells).answer.refusal ≡ 0 → let l = loading t empty_cells in (image_run l.left (image_row l.answer.start)).answer.refusal ≡ 0
+pub loaded-accepted : (t : List ℕ) (s : Start) → (loading t empty_cells).answer ≡ Ok s → let l = (loading t empty_cells).left in (image_run l (image_row s)).answer.refusal ≡ 0
 unfolding ran
-loaded-accepted t h = ap (λ (x : Called Ran Lent). x.answer.refusal) (loaded-runs t h)
+loaded-accepted t s h = ap (λ (x : Called Ran Lent). x.answer.refusal) (loaded-runs t s h)

@@ -1,11 +1,12 @@
 -- How the runner runs a program (document 01, "The runner"; document 02, Card 7).
-use Rattle.std.specs.Prelude.{cond, List, [], ℕ, ℤ, pos, eqb, replicate}
+use Rattle.std.specs.Prelude.{List, [], ℕ, ℤ, pos, Result, Ok, Err, replicate}
 use Rattle.definition.specs.declared.Ran.{Ran}
 use Rattle.definition.specs.Constants.{ROW, ROW-PC, ROW-SP, ROW-SR}
 use Rattle.definition.specs.Calls.{put, Called, Lent, lent, run_call}
 use Rattle.lines.specs.declared.Start.{Start}
 use Rattle.lines.specs.Reader.{empty_cells}
-use Rattle.source.specs.declared.Loaded.{Loaded}
+use Rattle.image_run.specs.declared.Output.{Output}
+use Rattle.source.specs.declared.Refused.{Refused}
 use Rattle.source.specs.Source.{bounded, loading}
 use Rattle.source.specs.Message.{message_text}
 use Rattle.report.specs.Text.{run_text, refusal_text}
@@ -28,16 +29,28 @@ image_text cells s =
     let m = image_run cells (image_row s) in
     run_text m.answer m.left.row
 
--- What is printed of a file within the limit: the lines of its run, or "`refused`, number and line".
-unfoldable pub report_of : Called Loaded (List ℤ) → List ℕ
-report_of m = cond (eqb m.answer.refusal 0) (image_text m.left m.answer.start) (refusal_text m.answer.refusal m.answer.place)
+-- What is printed where these cells are left: the lines of the run, or "`refused`, number and line".
+abbrev pub outcome_text : List ℤ → Result Start Refused → List ℕ
+outcome_text cells (Ok s) = image_text cells s
+outcome_text cells (Err e) = refusal_text e.number e.place
 
--- What a person is told of it on standard error.
-unfoldable pub message_of : List ℕ → Called Loaded (List ℤ) → List ℕ
-message_of t m = cond (eqb m.answer.refusal 0) [] (message_text t m.answer.refusal m.answer.place)
+-- What a person is told of a text on standard error.
+abbrev pub outcome_message : List ℕ → Result Start Refused → List ℕ
+outcome_message t (Ok s) = []
+outcome_message t (Err e) = message_text t e.number e.place
+
+-- What is printed and told of a file within the limit.
+unfoldable pub report_of : Called (Result Start Refused) (List ℤ) → List ℕ
+report_of m = outcome_text m.left m.answer
+
+unfoldable pub message_of : List ℕ → Called (Result Start Refused) (List ℤ) → List ℕ
+message_of t m = outcome_message t m.answer
+
+abbrev pub printed_texts : List ℕ → List ℕ × List ℕ
+printed_texts t = let m = loading t empty_cells in (report_of m, message_of t m)
 
 -- A file, "loaded from cell 0" of 2,048 empty cells.
-abbrev pub loaded_file : List ℕ → Called Loaded (List ℤ)
+abbrev pub loaded_file : List ℕ → Called (Result Start Refused) (List ℤ)
 loaded_file file = loading (bounded file) empty_cells
 
 -- What the runner prints of a whole file, on standard output and on standard error.
@@ -46,3 +59,6 @@ printed file = report_of (loaded_file file)
 
 unfoldable pub said : List ℕ → List ℕ
 said file = message_of (bounded file) (loaded_file file)
+
+abbrev pub printed_of : List ℕ → Output
+printed_of file = record { out = printed file; err = said file }

@@ -1,134 +1,97 @@
-// instructions.rs: Instruction::execute, and the two requests to the console.
+// instructions.rs: Instruction::execute, with the two requests to the console.
 #![tactic(auto)]
 
-ghost use Rattle.std.specs.Prelude.{◌≡◌, false, List, ◌≤◌, ◌<◌, ℤ, pos};
+ghost use Rattle.std.specs.Prelude.{◌≡◌, ◌≤◌, None, List, ℤ};
 ghost use Rattle.definition.specs.Constants.{CELLS-MOST};
 ghost use Rattle.definition.specs.Memory.{cell_count};
-ghost use Rattle.definition.specs.Registers.{reg_at};
-ghost use Rattle.definition.specs.Exec.{core};
-ghost use Rattle.definition.specs.Encoding.{op_at};
-ghost use Rattle.definition.specs.Instructions.{execute, nothing, reads, writes, in_op, out_op};
-ghost use Rattle.registers.specs.Meaning.{res_of};
-ghost use Rattle.arguments.specs.Operands.{arg_of};
-ghost use Rattle.stores.specs.Meaning.{made};
-ghost use Rattle.instructions.specs.Meaning.{asker};
+ghost use Rattle.definition.specs.Exec.{core, check_privileged};
+ghost use Rattle.definition.specs.Instructions.{in_op, out_op, execute};
+ghost use Rattle.registers.specs.Meaning.{res_of, core_of};
 
-use arguments::Arg;
-use definition::{Error, Registers};
-use stores::Made;
+use definition::{Error, Instruction, Op, Operand, Reg, Registers, Request};
+use operations::words;
+use registers::Plan;
 
 pub mod jumps;
 pub mod moves;
 
-// What `in` and `out` ask of the console: the port, and the word to write there (for `in` it is 0); and the registers as they are left.
-#[derive(Clone, Copy)]
-pub struct Asked {
-    pub ok: bool,
-    pub error: Error,
-    pub port: u32,
-    pub w: i64,
-    pub s: Registers,
-}
-
-// Does the operation ask the console: in and out?
-pub fn is_asker(op: u32) -> bool
-    ensures { result ≡ asker op }
+// "in, out and rti check S first"
+#[tactic(auto, unfolding(registers::specs::Meaning::res_of, definition::specs::Exec::check_privileged, definition::specs::Exec::branch))]
+fn check_privileged(s: &Registers) -> Result<(), Error>
+    ensures { (l : List ℤ) → res_of result (core l s.now) ≡ check_privileged (core l s.now) }
 {
-    (op == 6) | (op == 20)
-}
-
-// Instruction::execute for every operation but in and out. One flat match, so that it compiles to one jump table; what it leaves
-// to its last arm are the seven jumps.
-pub fn execute(cells: &[i64], guard: u32, s: Registers, op: u32, x: Arg, y: Arg) -> Made
-    requires { (cell_count cells.now ≤ CELLS-MOST) × ((asker op ≡ false) × (op < 33)) }
-    ensures { made nothing cells.now result ≡ execute guard (op_at op) (arg_of x) (arg_of y) (reg_at x.reg) (reg_at y.reg) (core cells.now s) }
-{
-    match op {
-        0 => stores::with_none(operations::words::add(cells, s, x, y.reg)),
-        1 => stores::with_none(operations::words::and(cells, s, x, y.reg)),
-        2 => stores::call(cells, guard, s, x),
-        3 => stores::with_none(operations::words::cmp(cells, s, x, y.reg)),
-        4 => stores::with_none(operations::words::div(cells, s, x, y.reg)),
-        5 => stores::fas(cells, guard, s, x, y.reg),
-        14 => stores::with_none(moves::ld(cells, s, x, y.reg)),
-        15 => stores::with_none(operations::words::mul(cells, s, x, y.reg)),
-        16 => stores::with_none(operations::words::neg(s, x.reg)),
-        17 => stores::with_none(registers::accept(s)),
-        18 => stores::with_none(operations::words::not(s, x.reg)),
-        19 => stores::with_none(operations::words::or(cells, s, x, y.reg)),
-        21 => stores::with_none(moves::pop(cells, s, x.reg)),
-        22 => stores::push(cells, guard, s, x),
-        23 => stores::with_none(jumps::reset(s)),
-        24 => stores::with_none(moves::rti(cells, s)),
-        25 => stores::with_none(moves::rtn(cells, s)),
-        26 => stores::with_none(operations::words::shl(cells, s, x, y.reg)),
-        27 => stores::with_none(operations::words::shr(cells, s, x, y.reg)),
-        28 => stores::st(cells, guard, s, x.reg, y),
-        29 => stores::with_none(operations::words::sub(cells, s, x, y.reg)),
-        30 => stores::swap(cells, guard, s, x, y.reg),
-        31 => stores::with_none(registers::refuse(s, Error::Trap)),
-        32 => stores::with_none(operations::words::xor(cells, s, x, y.reg)),
-        _ => stores::with_none(jumps::jump_if(
-            cells,
-            s,
-            jumps::is_taken(op, jumps::zero(s), jumps::negative(s)),
-            x,
-        )),
-    }
-}
-
-fn not_asked(s: Registers, error: Error) -> Asked
-    ensures { result ≡ record { ok = false; error = error; port = 0; w = pos 0; s = s } }
-{
-    Asked {
-        ok: false,
-        error,
-        port: 0,
-        w: 0,
-        s,
+    if registers::supervisor(s) {
+        Ok(())
+    } else {
+        Err(Error::PrivilegedInstruction)
     }
 }
 
 // in: the port is known, what is read there is the console's.
-pub fn in_request(s: Registers, x: Arg, r: u32) -> Asked
-    ensures { (l : List ℤ) → res_of (reads result.port (reg_at r)) result.ok result.error (core l result.s) ≡ in_op (arg_of x) (reg_at r) (core l s) }
+#[tactic(auto, unfolding(registers::specs::Meaning::res_of, definition::specs::Instructions::in_op, definition::specs::Exec::and_then))]
+pub fn in_request(s: &mut Registers, x: Operand, r: Reg) -> Result<Request, Error>
+    ensures { (l : List ℤ) → res_of result (core l s.new) ≡ in_op x r (core l s.old) }
 {
-    if registers::supervisor(s) {
-        let port = arguments::address_of(s, x);
-        let error = port.error;
-        let t = port.s;
-        return Asked {
-            ok: port.ok,
-            error,
-            port: port.value,
-            w: 0,
-            s: t,
-        };
-    }
-    not_asked(s, Error::PrivilegedInstruction)
+    check_privileged(s)?;
+    let port = arguments::place_of(s, x)?;
+    Ok(Request::Reads(port, r))
 }
 
 // out: the word, then the port.
-pub fn out_request(cells: &[i64], s: Registers, x: Arg, y: Arg) -> Asked
-    ensures { res_of (writes result.port result.w) result.ok result.error (core cells.now result.s) ≡ out_op (arg_of x) (arg_of y) (core cells.now s) }
+#[tactic(auto, unfolding(registers::specs::Meaning::res_of, definition::specs::Instructions::out_op, definition::specs::Exec::and_then))]
+pub fn out_request(cells: &[i64], p: &mut Plan, x: Operand, y: Operand) -> Result<Request, Error>
+    ensures value { res_of result (core_of cells.now p.new) ≡ out_op x y (core_of cells.now p.old) }
+    ensures write { p.new.write ≡ p.old.write }
 {
-    if registers::supervisor(s) {
-        let given = arguments::word_of(cells, s, x);
-        let t = given.s;
-        if given.ok {
-            let port = arguments::address_of(t, y);
-            let error = port.error;
-            let u = port.s;
-            return Asked {
-                ok: port.ok,
-                error,
-                port: port.value,
-                w: given.value,
-                s: u,
-            };
-        }
-        let error = given.error;
-        return not_asked(t, error);
+    check_privileged(&p.s)?;
+    let w = arguments::word_of(cells, p, x)?;
+    let port = arguments::place_of(&mut p.s, y)?;
+    Ok(Request::Writes(port, w))
+}
+
+// Instruction::execute: `guard` is the first address that the step may write.
+#[tactic(auto, unfolding(registers::specs::Meaning::res_of, definition::specs::Instructions::execute, definition::specs::Instructions::jump_if, definition::specs::Instructions::quiet, definition::specs::Exec::and_then))]
+pub fn execute(cells: &[i64], guard: u32, p: &mut Plan, i: Instruction) -> Result<Request, Error>
+    requires most { cell_count cells.now ≤ CELLS-MOST }
+    requires none { p.old.write ≡ None }
+    ensures { res_of result (core_of cells.now p.new) ≡ execute guard i.op i.x i.y i.r1 i.r2 (core_of cells.now p.old) }
+{
+    let z = jumps::flag(&p.s, 1);
+    let n = jumps::flag(&p.s, 2);
+    match i.op {
+        Op::Add => words::add(cells, p, i.x, i.r2)?,
+        Op::And => words::and(cells, p, i.x, i.r2)?,
+        Op::Call => stores::call(cells, guard, p, i.x)?,
+        Op::Cmp => words::cmp(cells, p, i.x, i.r2)?,
+        Op::Div => words::div(cells, p, i.x, i.r2)?,
+        Op::Fas => stores::fas(cells, guard, p, i.x, i.r2)?,
+        Op::In => return in_request(&mut p.s, i.x, i.r2),
+        Op::Jmp => stores::jump(cells, p, i.x)?,
+        Op::Jeq => jumps::jump_if(cells, p, z, i.x)?,
+        Op::Jne => jumps::jump_if(cells, p, !z, i.x)?,
+        Op::Jle => jumps::jump_if(cells, p, z | n, i.x)?,
+        Op::Jlt => jumps::jump_if(cells, p, !z & n, i.x)?,
+        Op::Jge => jumps::jump_if(cells, p, z | !n, i.x)?,
+        Op::Jgt => jumps::jump_if(cells, p, !z & !n, i.x)?,
+        Op::Ld => moves::ld(cells, p, i.x, i.r2)?,
+        Op::Mul => words::mul(cells, p, i.x, i.r2)?,
+        Op::Neg => words::neg(&mut p.s, i.r1)?,
+        Op::Nop => {}
+        Op::Not => words::not(&mut p.s, i.r1)?,
+        Op::Or => words::or(cells, p, i.x, i.r2)?,
+        Op::Out => return out_request(cells, p, i.x, i.y),
+        Op::Pop => moves::pop(cells, p, i.r1)?,
+        Op::Push => stores::push(cells, guard, p, i.x)?,
+        Op::Reset => jumps::reset(&mut p.s)?,
+        Op::Rti => moves::rti(cells, p)?,
+        Op::Rtn => moves::rtn(cells, p)?,
+        Op::Shl => words::shl(cells, p, i.x, i.r2)?,
+        Op::Shr => words::shr(cells, p, i.x, i.r2)?,
+        Op::St => stores::st(cells, guard, p, i.r1, i.y)?,
+        Op::Sub => words::sub(cells, p, i.x, i.r2)?,
+        Op::Swap => stores::swap(cells, guard, p, i.x, i.r2)?,
+        Op::Trap => return Err(Error::Trap),
+        Op::Xor => words::xor(cells, p, i.x, i.r2)?,
     }
-    not_asked(s, Error::PrivilegedInstruction)
+    Ok(Request::Nothing)
 }

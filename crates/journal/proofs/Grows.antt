@@ -1,4 +1,9 @@
 -- A run leaves the queue's bytes and the output that was counted: what going back, which is lent neither, needs of them.
+use Rattle.definition.specs.declared.Ending.{Ending}
+use Rattle.definition.specs.declared.Ending.TheVariants.{Exception, Stop}
+use Rattle.definition.specs.declared.Executed.{Executed}
+use Rattle.definition.specs.declared.Request.{Request}
+use Rattle.definition.specs.declared.Request.TheVariants.{Nothing, Reads, Writes}
 use mathlib.Core.Path.{◌≡◌, refl, sym, ap, ◌∙◌}
 use mathlib.Core.Bool.{Bool, true, false, cond, ◌&&◌}
 use Prim.Native.Nat.{ℕ, suc, ◌-◌, ◌≤◌}
@@ -8,13 +13,12 @@ use lib.ListN.{length, get_or, take, length-set}
 use lib.Seq.{take-take, take-set-le}
 use lib.Dec.{ltb, eqb}
 use Rattle.definition.specs.Constants.{CYCLES-END, TIMER-INTERVAL-PORT}
-use Rattle.definition.specs.Exception.{Ending, exception, stop, ending, HARDWARE-INTERRUPT, NO-HANDLER, OUTPUT-FULL, CYCLES-FULL}
+use Rattle.definition.specs.Exception.{ending, HARDWARE-INTERRUPT, NO-HANDLER, OUTPUT-FULL, CYCLES-FULL}
 use Rattle.definition.specs.Registers.{interrupt_enable}
 use Rattle.definition.specs.Io.{Console, with_marks, input_ready, status, read_status, write_control, around, read_data, read_port, write_data, write_port, output_full}
 use Rattle.definition.specs.Timer.{with_timer_mark, set_timer, tick}
 use Rattle.definition.specs.Exec.{Core, Res, ok, err}
-use Rattle.definition.specs.Instructions.{Request, nothing, reads, writes}
-use Rattle.definition.specs.Runtime.{Machine, with_core, with_console, with_timer, with_mark, executed, Executed, attempt, Turn, completes, enters, stops, ends, poll, conclude, serve, after_attempt, guard, turn, Outcome, completed, stopped, has_handler, entered, recover, elapses, settle, reached, limit, step}
+use Rattle.definition.specs.Runtime.{Machine, with_core, with_console, with_timer, with_mark, executed, attempt, Turn, completes, enters, stops, ends, poll, conclude, serve, after_attempt, guard, turn, Outcome, completed, stopped, has_handler, entered, recover, elapses, settle, reached, limit, step}
 
 pub record Grows (k k' : Console) : Type 0 where
   pub queue : k'.queue ≡ k.queue
@@ -68,8 +72,8 @@ OutcomeGrows a (stopped n d m) = Grows a m.console
 
 ends-grows : (a : Console) (e : Ending) (m : Machine) → Grows a m.console → TurnGrows a (ends e m)
 unfolding ends
-ends-grows a (exception k) m p = p
-ends-grows a (stop n d) m p = p
+ends-grows a (Exception k) m p = p
+ends-grows a (Stop n d) m p = p
 
 poll-grows : (a : Console) (m : Machine) → Grows a m.console → TurnGrows a (poll m)
 unfolding poll
@@ -87,9 +91,9 @@ conclude-grows a cost m (err e c) p = ends-grows a (ending e) (with_core c m) p
 
 serve-grows : (m : Machine) (q : Request) (cost : ℕ) (c : Core) → TurnGrows m.console (serve m q cost c)
 unfolding serve
-serve-grows m nothing cost c = conclude-grows m.console cost m (ok tt c) (grows-here m.console)
-serve-grows m (reads p r) cost c = conclude-grows m.console cost (with_console (read_port p m.console).1 m) _ (read-grows p m.console)
-serve-grows m (writes p w) cost c = go (output_full p m.console) (eqb p TIMER-INTERVAL-PORT)
+serve-grows m Nothing cost c = conclude-grows m.console cost m (ok tt c) (grows-here m.console)
+serve-grows m (Reads p r) cost c = conclude-grows m.console cost (with_console (read_port p m.console).1 m) _ (read-grows p m.console)
+serve-grows m (Writes p w) cost c = go (output_full p m.console) (eqb p TIMER-INTERVAL-PORT)
   where
     go : (t d : Bool) → TurnGrows m.console (cond t (stops OUTPUT-FULL 0 m) (cond d (poll (with_timer (set_timer w m.timer) (executed cost c m))) (conclude cost (with_console (write_port p w m.console) m) (ok tt c))))
     go true d = grows-here m.console

@@ -1,4 +1,13 @@
 -- An instruction comes to its one write, which is the one `aim` names, or leaves the cells.
+use Rattle.definition.specs.declared.Op.TheVariants as O
+use Rattle.definition.specs.declared.Executed.{Executed}
+use Rattle.definition.specs.declared.Instruction.{Instruction}
+use Rattle.definition.specs.declared.Op.{Op}
+use Rattle.definition.specs.declared.Operand.{Operand}
+use Rattle.definition.specs.declared.Operand.TheVariants.{Absent, Dir, Idx, Imm, Ind, Register}
+use Rattle.definition.specs.declared.Reg.{Reg}
+use Rattle.definition.specs.declared.Request.{Request}
+use Rattle.definition.specs.declared.Request.TheVariants.{Nothing}
 use mathlib.Core.Path.{◌≡◌, refl, ap, ◌∙◌, subst}
 use mathlib.Core.List.{List}
 use Prim.Native.Nat.{ℕ}
@@ -7,13 +16,11 @@ use Rattle.definition.specs.declared.Cell.{Cell}
 use Rattle.definition.specs.declared.Error.{Error}
 use Rattle.definition.specs.declared.Error.TheVariants.{CellError, InvalidMemoryAccess, InvalidInstruction}
 use Rattle.definition.specs.Memory.{word}
-use Rattle.definition.specs.Registers.{Reg, get_reg, with_sp}
-use Rattle.definition.specs.Arguments.{Operand, none, imm, reg, dir, ind, idx, resolve, resolved}
-use Rattle.definition.specs.Encoding as E
-use Rattle.definition.specs.Encoding.{Op, Instruction}
+use Rattle.definition.specs.Registers.{get_reg, with_sp}
+use Rattle.definition.specs.Arguments.{resolve, resolved}
 use Rattle.definition.specs.Exec.{Core, with_regs, Exec, Res, ok, err, and_then, ◌>>=◌, ◌>>◌, return, raise, ask, read, write, push, below, or_address}
-use Rattle.definition.specs.Instructions.{Request, nothing, cell_of, register_word, place_of, set_register, jump, call, push_op, st, fas, swap_back, swap, quiet, execute}
-use Rattle.definition.specs.Runtime.{Executed, fetch, attempt}
+use Rattle.definition.specs.Instructions.{cell_of, register_word, place_of, set_register, jump, call, push_op, st, fas, swap_back, swap, quiet, execute}
+use Rattle.definition.specs.Runtime.{fetch, attempt}
 use Rattle.journal.specs.Writes.{aim_push, aim_push_op, aim_st, aim_fas, aim_swap, nowhere, aim, aimed}
 use Rattle.journal.specs.StepBack.{cells_of}
 use Rattle.journal.proofs.Still.{Still, then-still, seq, pure, raises, s-set, s_read, s-cell, s-register, s-place, s-jump, s-jump_if, s-words, s-neg, s-not, s-rtn, s-pop_op, s-ld, s-rti, s-reset, s-quiet, s-in, s-out, s-fetch}
@@ -95,12 +102,12 @@ no_place x m c d q p s = before CellError d p (m c) (s.at c ∙ q) (λ g. refl)
 
 shape-back : {l : List ℤ} (x : Operand) (v : Cell) (c : Core) → c.cells ≡ l → Shape l (place_of x c) (λ g. swap_back g x v c)
 unfolding swap_back or_address resolve resolved
-shape-back none v c q = no_place none (raise CellError) c c q refl raises
-shape-back (imm w) v c q = no_place (imm w) (raise CellError) c c q refl raises
-shape-back (reg r) v c q = no_place (reg r) (set_register r v) c c q refl (s-set r v)
-shape-back (dir w) v c q = stores (dir w) v c q
-shape-back (ind r) v c q = stores (ind r) v c q
-shape-back (idx r k) v c q = stores (idx r k) v c q
+shape-back Absent v c q = no_place Absent (raise CellError) c c q refl raises
+shape-back (Imm w) v c q = no_place (Imm w) (raise CellError) c c q refl raises
+shape-back (Register r) v c q = no_place (Register r) (set_register r v) c c q refl (s-set r v)
+shape-back (Dir w) v c q = stores (Dir w) v c q
+shape-back (Ind r) v c q = stores (Ind r) v c q
+shape-back (Idx r k) v c q = stores (Idx r k) v c q
 
 shape-swap : (x : Operand) (r : Reg) (c : Core) → Shape c.cells (aim_swap x r c) (λ g. swap g x r c)
 unfolding swap aim_swap and_then
@@ -116,7 +123,7 @@ shape-swap x r c =
 
 quietly : (a : Exec ℕ) (m : ℕ → Exec (Unit {0})) (c : Core) → Shape c.cells (a c) (λ g. m g c) → Shape c.cells (a c) (λ g. quiet (m g) c)
 unfolding quiet
-quietly a m c s = last s (λ u. return nothing) (λ u. pure)
+quietly a m c s = last s (λ u. return Nothing) (λ u. pure)
 
 plain : (m : Exec Request) (c : Core) → Still m → Shape c.cells (nowhere c) (λ g. m c)
 unfolding nowhere
@@ -124,39 +131,39 @@ plain m c s = before InvalidInstruction c refl (m c) (s.at c) (λ g. refl)
 
 pub shape-execute : (o : Op) (x y : Operand) (r₁ r₂ : Reg) (c : Core) → Shape c.cells (aim o x y r₁ r₂ c) (λ g. execute g o x y r₁ r₂ c)
 unfolding aim execute
-shape-execute E.ADD x y r₁ r₂ c = plain _ c (s-quiet (s-words x r₂ _))
-shape-execute E.AND x y r₁ r₂ c = plain _ c (s-quiet (s-words x r₂ _))
-shape-execute E.CALL x y r₁ r₂ c = quietly aim_push (λ g. call g x) c (shape-call x c)
-shape-execute E.CMP x y r₁ r₂ c = plain _ c (s-quiet (s-words x r₂ _))
-shape-execute E.DIV x y r₁ r₂ c = plain _ c (s-quiet (s-words x r₂ _))
-shape-execute E.FAS x y r₁ r₂ c = quietly (aim_fas x) (λ g. fas g x r₂) c (shape-fas x r₂ c)
-shape-execute E.IN x y r₁ r₂ c = plain _ c (s-in x r₂)
-shape-execute E.JMP x y r₁ r₂ c = plain _ c (s-quiet (s-jump x))
-shape-execute E.JEQ x y r₁ r₂ c = plain _ c (s-quiet (s-jump_if _ x))
-shape-execute E.JNE x y r₁ r₂ c = plain _ c (s-quiet (s-jump_if _ x))
-shape-execute E.JLE x y r₁ r₂ c = plain _ c (s-quiet (s-jump_if _ x))
-shape-execute E.JLT x y r₁ r₂ c = plain _ c (s-quiet (s-jump_if _ x))
-shape-execute E.JGE x y r₁ r₂ c = plain _ c (s-quiet (s-jump_if _ x))
-shape-execute E.JGT x y r₁ r₂ c = plain _ c (s-quiet (s-jump_if _ x))
-shape-execute E.LD x y r₁ r₂ c = plain _ c (s-quiet (s-ld x r₂))
-shape-execute E.MUL x y r₁ r₂ c = plain _ c (s-quiet (s-words x r₂ _))
-shape-execute E.NEG x y r₁ r₂ c = plain _ c (s-quiet (s-neg r₁))
-shape-execute E.NOP x y r₁ r₂ c = plain _ c (s-quiet pure)
-shape-execute E.NOT x y r₁ r₂ c = plain _ c (s-quiet (s-not r₁))
-shape-execute E.OR x y r₁ r₂ c = plain _ c (s-quiet (s-words x r₂ _))
-shape-execute E.OUT x y r₁ r₂ c = plain _ c (s-out x y)
-shape-execute E.POP x y r₁ r₂ c = plain _ c (s-quiet (s-pop_op r₁))
-shape-execute E.PUSH x y r₁ r₂ c = quietly (aim_push_op x) (λ g. push_op g x) c (shape-push x c)
-shape-execute E.RESET x y r₁ r₂ c = plain _ c (s-quiet s-reset)
-shape-execute E.RTI x y r₁ r₂ c = plain _ c (s-quiet s-rti)
-shape-execute E.RTN x y r₁ r₂ c = plain _ c (s-quiet s-rtn)
-shape-execute E.SHL x y r₁ r₂ c = plain _ c (s-quiet (s-words x r₂ _))
-shape-execute E.SHR x y r₁ r₂ c = plain _ c (s-quiet (s-words x r₂ _))
-shape-execute E.ST x y r₁ r₂ c = quietly (aim_st r₁ y) (λ g. st g r₁ y) c (shape-st r₁ y c)
-shape-execute E.SUB x y r₁ r₂ c = plain _ c (s-quiet (s-words x r₂ _))
-shape-execute E.SWAP x y r₁ r₂ c = quietly (aim_swap x r₂) (λ g. swap g x r₂) c (shape-swap x r₂ c)
-shape-execute E.TRAP x y r₁ r₂ c = plain _ c (s-quiet raises)
-shape-execute E.XOR x y r₁ r₂ c = plain _ c (s-quiet (s-words x r₂ _))
+shape-execute O.Add x y r₁ r₂ c = plain _ c (s-quiet (s-words x r₂ _))
+shape-execute O.And x y r₁ r₂ c = plain _ c (s-quiet (s-words x r₂ _))
+shape-execute O.Call x y r₁ r₂ c = quietly aim_push (λ g. call g x) c (shape-call x c)
+shape-execute O.Cmp x y r₁ r₂ c = plain _ c (s-quiet (s-words x r₂ _))
+shape-execute O.Div x y r₁ r₂ c = plain _ c (s-quiet (s-words x r₂ _))
+shape-execute O.Fas x y r₁ r₂ c = quietly (aim_fas x) (λ g. fas g x r₂) c (shape-fas x r₂ c)
+shape-execute O.In x y r₁ r₂ c = plain _ c (s-in x r₂)
+shape-execute O.Jmp x y r₁ r₂ c = plain _ c (s-quiet (s-jump x))
+shape-execute O.Jeq x y r₁ r₂ c = plain _ c (s-quiet (s-jump_if _ x))
+shape-execute O.Jne x y r₁ r₂ c = plain _ c (s-quiet (s-jump_if _ x))
+shape-execute O.Jle x y r₁ r₂ c = plain _ c (s-quiet (s-jump_if _ x))
+shape-execute O.Jlt x y r₁ r₂ c = plain _ c (s-quiet (s-jump_if _ x))
+shape-execute O.Jge x y r₁ r₂ c = plain _ c (s-quiet (s-jump_if _ x))
+shape-execute O.Jgt x y r₁ r₂ c = plain _ c (s-quiet (s-jump_if _ x))
+shape-execute O.Ld x y r₁ r₂ c = plain _ c (s-quiet (s-ld x r₂))
+shape-execute O.Mul x y r₁ r₂ c = plain _ c (s-quiet (s-words x r₂ _))
+shape-execute O.Neg x y r₁ r₂ c = plain _ c (s-quiet (s-neg r₁))
+shape-execute O.Nop x y r₁ r₂ c = plain _ c (s-quiet pure)
+shape-execute O.Not x y r₁ r₂ c = plain _ c (s-quiet (s-not r₁))
+shape-execute O.Or x y r₁ r₂ c = plain _ c (s-quiet (s-words x r₂ _))
+shape-execute O.Out x y r₁ r₂ c = plain _ c (s-out x y)
+shape-execute O.Pop x y r₁ r₂ c = plain _ c (s-quiet (s-pop_op r₁))
+shape-execute O.Push x y r₁ r₂ c = quietly (aim_push_op x) (λ g. push_op g x) c (shape-push x c)
+shape-execute O.Reset x y r₁ r₂ c = plain _ c (s-quiet s-reset)
+shape-execute O.Rti x y r₁ r₂ c = plain _ c (s-quiet s-rti)
+shape-execute O.Rtn x y r₁ r₂ c = plain _ c (s-quiet s-rtn)
+shape-execute O.Shl x y r₁ r₂ c = plain _ c (s-quiet (s-words x r₂ _))
+shape-execute O.Shr x y r₁ r₂ c = plain _ c (s-quiet (s-words x r₂ _))
+shape-execute O.St x y r₁ r₂ c = quietly (aim_st r₁ y) (λ g. st g r₁ y) c (shape-st r₁ y c)
+shape-execute O.Sub x y r₁ r₂ c = plain _ c (s-quiet (s-words x r₂ _))
+shape-execute O.Swap x y r₁ r₂ c = quietly (aim_swap x r₂) (λ g. swap g x r₂) c (shape-swap x r₂ c)
+shape-execute O.Trap x y r₁ r₂ c = plain _ c (s-quiet raises)
+shape-execute O.Xor x y r₁ r₂ c = plain _ c (s-quiet (s-words x r₂ _))
 
 abbrev costs : Instruction → Request → Exec Executed
 costs i q = return (record { cost = i.cycles; request = q })
@@ -167,6 +174,6 @@ shape-attempt c =
     first
     (fetch c)
     (s-fetch.at c)
-    (λ i. aim i.op i.x i.y i.r₁ i.r₂)
-    (λ i g. execute g i.op i.x i.y i.r₁ i.r₂ >>= costs i)
-    (λ i d q. subst (λ (l : List ℤ). Shape {X = Executed} l (aim i.op i.x i.y i.r₁ i.r₂ d) (λ g. and_then (execute g i.op i.x i.y i.r₁ i.r₂ d) (costs i))) q (last (shape-execute i.op i.x i.y i.r₁ i.r₂ d) (costs i) (λ q. pure)))
+    (λ i. aim i.op i.x i.y i.r1 i.r2)
+    (λ i g. execute g i.op i.x i.y i.r1 i.r2 >>= costs i)
+    (λ i d q. subst (λ (l : List ℤ). Shape {X = Executed} l (aim i.op i.x i.y i.r1 i.r2 d) (λ g. and_then (execute g i.op i.x i.y i.r1 i.r2 d) (costs i))) q (last (shape-execute i.op i.x i.y i.r1 i.r2 d) (costs i) (λ q. pure)))

@@ -1,4 +1,7 @@
 -- A step's cells: what it wrote, put back, gives those before it; stops 6 and 7 leave the machine.
+use Rattle.definition.specs.declared.Executed.{Executed}
+use Rattle.definition.specs.declared.Request.{Request}
+use Rattle.definition.specs.declared.Request.TheVariants.{Nothing, Reads, Writes}
 use mathlib.Core.Path.{◌≡◌, refl, sym, ap, ◌∙◌, subst}
 use mathlib.Core.Bool.{Bool, true, false, cond, ◌&&◌, true≢false}
 use mathlib.Core.List.{List, [], ◌∷◌, ◌++◌}
@@ -15,8 +18,8 @@ use Rattle.definition.specs.Registers.{interrupt_enable}
 use Rattle.definition.specs.Io.{read_port, write_port, output_full}
 use Rattle.definition.specs.Timer.{with_timer_mark, set_timer, tick, read_timer}
 use Rattle.definition.specs.Exec.{Core, Res, ok, err}
-use Rattle.definition.specs.Instructions.{Request, nothing, reads, writes, set_register}
-use Rattle.definition.specs.Runtime.{Machine, with_core, with_console, with_timer, with_mark, executed, Executed, attempt, Turn, completes, enters, stops, ends, poll, conclude, serve, after_attempt, guard, turn, Outcome, completed, stopped, has_handler, entered_core, entered, recover, elapses, settle, reached, limit, step}
+use Rattle.definition.specs.Instructions.{set_register}
+use Rattle.definition.specs.Runtime.{Machine, with_core, with_console, with_timer, with_mark, executed, attempt, Turn, completes, enters, stops, ends, poll, conclude, serve, after_attempt, guard, turn, Outcome, completed, stopped, has_handler, entered_core, entered, recover, elapses, settle, reached, limit, step}
 use Rattle.definition.specs.Accepted.{Sound, AcceptedCore, AcceptedMachine}
 use Rattle.definition.proofs.Keeps.{Good, attempt-keeps}
 use Rattle.definition.proofs.AcceptedCore.{any_laws}
@@ -66,10 +69,10 @@ module _ (m : Machine) (l : List ℤ) where
 
   serve-cells : (q : Request) (cost : ℕ) (c : Core) → c.cells ≡ l → TurnCells m l (serve m q cost c)
   unfolding serve begins
-  serve-cells nothing cost c e = conclude-cells cost m (ok tt c) e
-  serve-cells (reads p r) cost c e =
+  serve-cells Nothing cost c e = conclude-cells cost m (ok tt c) e
+  serve-cells (Reads p r) cost c e =
       conclude-cells cost (with_console (read_port p m.console).1 m) (set_register r (word (pos (read_timer p m.timer (read_port p m.console).0))) c) ((s-set r _).at c ∙ e)
-  serve-cells (writes p w) cost c e = go (output_full p m.console) (eqb p TIMER-INTERVAL-PORT)
+  serve-cells (Writes p w) cost c e = go (output_full p m.console) (eqb p TIMER-INTERVAL-PORT)
     where
       go : (t d : Bool) → TurnCells m l (cond t (stops OUTPUT-FULL 0 m) (cond d (poll (with_timer (set_timer w m.timer) (executed cost c m))) (conclude cost (with_console (write_port p w m.console) m) (ok tt c))))
       go true d = ((λ h. absurd (true≢false (sym h))), λ h. refl)

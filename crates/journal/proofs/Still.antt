@@ -1,4 +1,10 @@
 -- What leaves the cells as they are: every part of an instruction but `write`.
+use Rattle.std.specs.Prelude.{Err, None, Ok, Option, Result, Some}
+use Rattle.definition.specs.declared.Instruction.{Instruction}
+use Rattle.definition.specs.declared.Missing.{Missing}
+use Rattle.definition.specs.declared.Missing.TheVariants.{NoAddress, OutsideCells}
+use Rattle.definition.specs.declared.Operand.{Operand}
+use Rattle.definition.specs.declared.Reg.{Reg}
 use mathlib.Core.Path.{◌≡◌, refl, ◌∙◌}
 use mathlib.Core.Bool.{Bool, true, false}
 use Prim.Native.Nat.{ℕ, suc, ◌-◌}
@@ -7,19 +13,12 @@ use Rattle.definition.specs.declared.Cell.{Cell}
 use Rattle.definition.specs.declared.Registers.{Registers}
 use Rattle.definition.specs.declared.Word.{Word}
 use Rattle.definition.specs.declared.Word.TheVariants.{Is, Empty, NotWord}
-use Rattle.definition.specs.declared.Address.{Address}
-use Rattle.definition.specs.declared.Address.TheVariants.{At, NotAddress}
-use Rattle.definition.specs.declared.Found.{Found}
-use Rattle.definition.specs.declared.Found.TheVariants.{Here, Outside}
-use Rattle.definition.specs.declared.Given.{Given}
-use Rattle.definition.specs.declared.Given.TheVariants.{Gives, OutsideCells, NoAddress}
 use Rattle.definition.specs.declared.Error.{Error}
 use Rattle.definition.specs.declared.Error.TheVariants.{CellError, Extract, PrivilegedInstruction}
 use Rattle.definition.specs.Word.{address_of}
 use Rattle.definition.specs.Memory.{extract_word, get}
-use Rattle.definition.specs.Registers.{Reg, get_reg, Put, assigned, refused, put_reg, supervisor, with_pc, with_sp, with_sr}
-use Rattle.definition.specs.Arguments.{Operand, resolve, resolved, extract_cell}
-use Rattle.definition.specs.Encoding.{Extracted, instruction, no_instruction}
+use Rattle.definition.specs.Registers.{get_reg, Put, assigned, refused, put_reg, supervisor, with_pc, with_sp, with_sr}
+use Rattle.definition.specs.Arguments.{resolve, resolved, extract_cell}
 use Rattle.definition.specs.Exec.{Core, with_regs, Exec, Res, ok, err, and_then, ◌>>=◌, return, raise, branch, ask, change, or_word, take_word, take_address, or_address, or_cell, or_given, or_put, assign, read, check_privileged, pop}
 use Rattle.definition.specs.Instructions.{cell_of, word_of, target_of, register_word, place_of, set_register, words, neg, not_op, jump, jump_if, rtn, pop_op, ld, rti, reset, quiet, in_op, out_op}
 use Rattle.definition.specs.Runtime.{or_instruction, fetch}
@@ -62,21 +61,21 @@ word-still (Is w) e c = refl
 word-still Empty e c = refl
 word-still NotWord e c = refl
 
-address-still : (a : Address) (e : Error) (c : Core) → cells_of (or_address a e c) ≡ c.cells
+address-still : (a : Option ℕ) (e : Error) (c : Core) → cells_of (or_address a e c) ≡ c.cells
 unfolding or_address
-address-still (At n) e c = refl
-address-still NotAddress e c = refl
+address-still (Some n) e c = refl
+address-still None e c = refl
 
-found-still : (f : Found) (e : Error) (c : Core) → cells_of (or_cell f e c) ≡ c.cells
+found-still : (f : Option Cell) (e : Error) (c : Core) → cells_of (or_cell f e c) ≡ c.cells
 unfolding or_cell
-found-still (Here v) e c = refl
-found-still Outside e c = refl
+found-still (Some v) e c = refl
+found-still None e c = refl
 
-given-still : (g : Given) (c : Core) → cells_of (or_given g c) ≡ c.cells
+given-still : (g : Result Cell Missing) (c : Core) → cells_of (or_given g c) ≡ c.cells
 unfolding or_given
-given-still (Gives v) c = refl
-given-still OutsideCells c = refl
-given-still NoAddress c = refl
+given-still (Ok v) c = refl
+given-still (Err OutsideCells) c = refl
+given-still (Err NoAddress) c = refl
 
 put-still : (p : Put) (c : Core) → cells_of (or_put p c) ≡ c.cells
 unfolding or_put
@@ -177,10 +176,10 @@ pub s-out : (x y : Operand) → Still (out_op x y)
 unfolding out_op
 s-out x y = seq s-check (λ u. seq (s-word x) (λ w. seq (s-place y) (λ n. pure)))
 
-s-instruction : (t : Extracted) → Still (or_instruction t)
+s-instruction : (t : Option Instruction) → Still (or_instruction t)
 unfolding or_instruction
-s-instruction (instruction i) = pure
-s-instruction no_instruction = raises
+s-instruction (Some i) = pure
+s-instruction None = raises
 
 pub s-fetch : Still fetch
 unfolding fetch

@@ -1,15 +1,15 @@
 -- "Step back" (document 02, Card 11): the cells that a step writes, in order of writing, and what each held just before.
 -- It is said beside the definition's step, which keeps no list of its writes: all code is proved against that step as it stands, and runs
 -- without a journal are to cost what they cost.
+use Rattle.definition.specs.declared.Op.TheVariants as O
+use Rattle.definition.specs.declared.Op.{Op}
+use Rattle.definition.specs.declared.Operand.{Operand}
+use Rattle.definition.specs.declared.Reg.{Reg}
 use Rattle.std.specs.Prelude.{cond, List, [], ◌∷◌, ◌++◌, ℕ, ℤ}
 use Rattle.definition.specs.declared.Cell.{Cell}
 use Rattle.definition.specs.declared.Error.TheVariants.{InvalidMemoryAccess, InvalidInstruction}
 use Rattle.definition.specs.Constants.{INTERRUPT-PC-SAVE, INTERRUPT-SR-SAVE, INTERRUPT-EXCEPTION}
 use Rattle.definition.specs.Memory.{cell_at, put_cell}
-use Rattle.definition.specs.Registers.{Reg}
-use Rattle.definition.specs.Arguments.{Operand}
-use Rattle.definition.specs.Encoding as E
-use Rattle.definition.specs.Encoding.{Op, Instruction}
 use Rattle.definition.specs.Exec.{Core, Exec, Res, ok, err, ◌>>=◌, ◌>>◌, return, raise, ask, read, permits, below}
 use Rattle.definition.specs.Instructions.{cell_of, register_word, place_of, set_register}
 use Rattle.definition.specs.Runtime.{Machine, fetch, guard, Turn, completes, enters, stops, turn, has_handler}
@@ -61,45 +61,45 @@ unfoldable pub nowhere : Exec ℕ
 nowhere = raise InvalidInstruction
 
 unfoldable pub aim : Op → Operand → Operand → Reg → Reg → Exec ℕ
-aim E.ADD x y r₁ r₂ = nowhere
-aim E.AND x y r₁ r₂ = nowhere
-aim E.CALL x y r₁ r₂ = aim_push
-aim E.CMP x y r₁ r₂ = nowhere
-aim E.DIV x y r₁ r₂ = nowhere
-aim E.FAS x y r₁ r₂ = aim_fas x
-aim E.IN x y r₁ r₂ = nowhere
-aim E.JMP x y r₁ r₂ = nowhere
-aim E.JEQ x y r₁ r₂ = nowhere
-aim E.JNE x y r₁ r₂ = nowhere
-aim E.JLE x y r₁ r₂ = nowhere
-aim E.JLT x y r₁ r₂ = nowhere
-aim E.JGE x y r₁ r₂ = nowhere
-aim E.JGT x y r₁ r₂ = nowhere
-aim E.LD x y r₁ r₂ = nowhere
-aim E.MUL x y r₁ r₂ = nowhere
-aim E.NEG x y r₁ r₂ = nowhere
-aim E.NOP x y r₁ r₂ = nowhere
-aim E.NOT x y r₁ r₂ = nowhere
-aim E.OR x y r₁ r₂ = nowhere
-aim E.OUT x y r₁ r₂ = nowhere
-aim E.POP x y r₁ r₂ = nowhere
-aim E.PUSH x y r₁ r₂ = aim_push_op x
-aim E.RESET x y r₁ r₂ = nowhere
-aim E.RTI x y r₁ r₂ = nowhere
-aim E.RTN x y r₁ r₂ = nowhere
-aim E.SHL x y r₁ r₂ = nowhere
-aim E.SHR x y r₁ r₂ = nowhere
-aim E.ST x y r₁ r₂ = aim_st r₁ y
-aim E.SUB x y r₁ r₂ = nowhere
-aim E.SWAP x y r₁ r₂ = aim_swap x r₂
-aim E.TRAP x y r₁ r₂ = nowhere
-aim E.XOR x y r₁ r₂ = nowhere
+aim O.Add x y r₁ r₂ = nowhere
+aim O.And x y r₁ r₂ = nowhere
+aim O.Call x y r₁ r₂ = aim_push
+aim O.Cmp x y r₁ r₂ = nowhere
+aim O.Div x y r₁ r₂ = nowhere
+aim O.Fas x y r₁ r₂ = aim_fas x
+aim O.In x y r₁ r₂ = nowhere
+aim O.Jmp x y r₁ r₂ = nowhere
+aim O.Jeq x y r₁ r₂ = nowhere
+aim O.Jne x y r₁ r₂ = nowhere
+aim O.Jle x y r₁ r₂ = nowhere
+aim O.Jlt x y r₁ r₂ = nowhere
+aim O.Jge x y r₁ r₂ = nowhere
+aim O.Jgt x y r₁ r₂ = nowhere
+aim O.Ld x y r₁ r₂ = nowhere
+aim O.Mul x y r₁ r₂ = nowhere
+aim O.Neg x y r₁ r₂ = nowhere
+aim O.Nop x y r₁ r₂ = nowhere
+aim O.Not x y r₁ r₂ = nowhere
+aim O.Or x y r₁ r₂ = nowhere
+aim O.Out x y r₁ r₂ = nowhere
+aim O.Pop x y r₁ r₂ = nowhere
+aim O.Push x y r₁ r₂ = aim_push_op x
+aim O.Reset x y r₁ r₂ = nowhere
+aim O.Rti x y r₁ r₂ = nowhere
+aim O.Rtn x y r₁ r₂ = nowhere
+aim O.Shl x y r₁ r₂ = nowhere
+aim O.Shr x y r₁ r₂ = nowhere
+aim O.St x y r₁ r₂ = aim_st r₁ y
+aim O.Sub x y r₁ r₂ = nowhere
+aim O.Swap x y r₁ r₂ = aim_swap x r₂
+aim O.Trap x y r₁ r₂ = nowhere
+aim O.Xor x y r₁ r₂ = nowhere
 
 -- The fetched instruction's.
 unfoldable pub aimed : Exec ℕ
 aimed = do
   i ← fetch
-  aim i.op i.x i.y i.r₁ i.r₂
+  aim i.op i.x i.y i.r1 i.r2
 
 -- The cells l are written there if g, the first address that the step may write, permits it (Exec: `permits`).
 unfoldable pub wrote_there : ℕ → List ℤ → Res ℕ → List Held

@@ -1,51 +1,8 @@
 // The calls that are lent a journal and take no step, raise aside: "first the call's own" refusals, "then 20". Each tests the journal first, and makes the call
 // without one where it fits and only the call's tests where not: no test is made twice, and 20 is still answered last.
-#![tactic(auto)]
+#![tactic(auto, using(definition::proofs::Checked::number_some), unfolding(journal::specs::Journal::is_journal, journal::specs::Journal::whole_records, journal::specs::Calls::with_journal, journal::specs::Calls::fresh_journal, journal::specs::Calls::load_journal, journal::specs::Calls::set_register_journal, journal::specs::Calls::deliver_journal, journal::specs::Calls::drain_journal, definition::specs::Calls::fresh, definition::specs::Calls::load, definition::specs::Calls::set_register, definition::specs::Calls::deliver, definition::specs::Calls::drain))]
 
 pub mod cells;
 pub mod fresh;
 pub mod register;
 pub mod serial;
-
-ghost use Rattle.std.specs.Prelude.{◌≡◌, cond, ◌≤◌, length, eqb};
-ghost use Rattle.definition.specs.Calls.{passes};
-ghost use Rattle.journal.specs.Journal.{with_start};
-ghost use Rattle.journal.specs.Calls.{no_journal, emptied};
-
-use definition::Done;
-
-// What is answered with a journal that does not fit, by the verdict of the call's own tests.
-pub fn no_journal(own: Done) -> Done
-    ensures { result ≡ cond (passes own) no_journal own }
-{
-    if own.refusal == 0 {
-        Done {
-            refusal: 20,
-            place: 0,
-        }
-    } else {
-        own
-    }
-}
-
-// "it gets count 0 unless refused and keeps the rest"
-pub fn empty_unless(journal: &mut [i64], refusal: u64)
-    requires { 2 ≤ length journal.old }
-    ensures { journal.new ≡ cond (eqb refusal 0) (emptied journal.old) journal.old }
-{
-    if refusal == 0 {
-        ring::empty(journal);
-        return;
-    }
-}
-
-// fresh "sets start 0 too"
-pub fn make_unless(journal: &mut [i64], refusal: u64)
-    requires { 2 ≤ length journal.old }
-    ensures { journal.new ≡ cond (eqb refusal 0) (with_start 0 (emptied journal.old)) journal.old }
-{
-    if refusal == 0 {
-        ring::make(journal);
-        return;
-    }
-}

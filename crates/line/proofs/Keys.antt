@@ -1,6 +1,6 @@
 -- Short names are told apart by their keys. Assumes nothing.
 use mathlib.Core.Path.{◌≡◌, refl, sym, ap, ◌∙◌}
-use mathlib.Core.Bool.{Bool, true, false, ◌&&◌}
+use mathlib.Core.Bool.{Bool, true, cond, ◌&&◌}
 use mathlib.Core.List.{List, [], ◌∷◌, map}
 use Prim.Native.Nat.{ℕ, zero, suc, ◌+◌, ◌*◌, ◌-◌, ◌≤◌, ◌<◌, ◌^◌}
 use native.Mathlib.Omega.{arith}
@@ -8,17 +8,19 @@ use native.Mathlib.Nat.{pow-suc}
 use native.Mathlib.Numerals.{add-one}
 use lib.ListN.{length, drop, get_or}
 use lib.Seq.{drop-cons}
-use lib.Dec.{leb, eqb}
-use borrow.Author.Tests.{leb-true, le-leb, lt-leb, eqb-true, eq-eqb, ne_eqb}
-use Rattle.expression.specs.Reader.{head, front, is_letter, same}
-use Rattle.expression.specs.Table.{name_at}
+use lib.Dec.{leb, ltb, eqb}
+use borrow.Author.Tests.{leb-true, le-leb, lt-leb, eq-eqb, ne_eqb}
+use Rattle.std.specs.Prelude.{Some, None, position, ◌==◌}
+use Rattle.std.specs.List.{position_or_len}
+use Rattle.std.proofs.lemmas.List.Recursion.{is_position_or_len}
+use Rattle.expression.specs.Reader.{gives, refused, front, past, is_letter, same}
 use Rattle.expression.proofs.Spans.{by_bool, clash, every, every-head, every-tail, front-every}
 use Rattle.expression.proofs.Sound.{both}
-use Rattle.expression.proofs.Places.{front-on, front-off, letter-ends, tail-drop, inside}
+use Rattle.expression.proofs.Names.{drop_past}
 use Rattle.assembly.specs.Grammar.{mnemonics, registers}
 use Rattle.assembly.specs.Reader.{number_from, number_of}
 use Rattle.assembly.proofs.Names.{same_true}
-use Rattle.line.specs.Names.{key_from, short_key, index_from, word_letters}
+use Rattle.line.specs.Names.{key_from, short_key, index_from, keyed_at, named_at}
 
 pub letter-bounds : (b : ℕ) → is_letter b ≡ true → (97 ≤ b) × (b ≤ 122)
 unfolding is_letter
@@ -86,58 +88,77 @@ registers-short : all_short registers ≡ true
 unfolding all_short is_short every is_letter
 registers-short = refl
 
-word-short : is_short word_letters ≡ true
-unfolding is_short every is_letter
-word-short = refl
-
-pub mnemonic-key : (s : List ℕ) (at : ℕ) → index_from 0 (map short_key mnemonics) (short_key (name_at s at)) ≡ number_of mnemonics (name_at s at)
-mnemonic-key s at = number-key mnemonics 0 (name_at s at) mnemonics-short (front-every is_letter (drop at s))
-
-pub register-key : (s : List ℕ) (at : ℕ) → index_from 0 (map short_key registers) (short_key (name_at s at)) ≡ number_of registers (name_at s at)
-register-key s at = number-key registers 0 (name_at s at) registers-short (front-every is_letter (drop at s))
-
 -- the code's two tables
-mnemonic-keys : 9251 ∷ 11811 ∷ 797796 ∷ 28035 ∷ 35251 ∷ 49563 ∷ 2418 ∷ 85379 ∷ 83339 ∷ 85547 ∷ 85035 ∷ 85155 ∷ 83755 ∷ 83875 ∷ 3106 ∷ 111971 ∷ 116027 ∷ 118659 ∷ 118691 ∷ 3986 ∷ 128419 ∷ 135043 ∷ 4371268 ∷ 152462757 ∷ 152651 ∷ 152691 ∷ 157795 ∷ 157843 ∷ 5026 ∷ 161043 ∷ 5169540 ∷ 5390724 ∷ 200595 ∷ [] ≡ map short_key mnemonics
+pub mnemonic-keys : 9251 ∷ 11811 ∷ 797796 ∷ 28035 ∷ 35251 ∷ 49563 ∷ 2418 ∷ 85379 ∷ 83339 ∷ 85547 ∷ 85035 ∷ 85155 ∷ 83755 ∷ 83875 ∷ 3106 ∷ 111971 ∷ 116027 ∷ 118659 ∷ 118691 ∷ 3986 ∷ 128419 ∷ 135043 ∷ 4371268 ∷ 152462757 ∷ 152651 ∷ 152691 ∷ 157795 ∷ 157843 ∷ 5026 ∷ 161043 ∷ 5169540 ∷ 5390724 ∷ 200595 ∷ [] ≡ map short_key mnemonics
 unfolding short_key key_from
 mnemonic-keys = refl
 
-register-keys : 9 ∷ 17 ∷ 4122 ∷ 4994 ∷ 5010 ∷ [] ≡ map short_key registers
+pub register-keys : 9 ∷ 17 ∷ 4122 ∷ 4994 ∷ 5010 ∷ [] ≡ map short_key registers
 unfolding short_key key_from
 register-keys = refl
 
-pub mnemonic-table : (s : List ℕ) (at : ℕ) → index_from 0 (9251 ∷ 11811 ∷ 797796 ∷ 28035 ∷ 35251 ∷ 49563 ∷ 2418 ∷ 85379 ∷ 83339 ∷ 85547 ∷ 85035 ∷ 85155 ∷ 83755 ∷ 83875 ∷ 3106 ∷ 111971 ∷ 116027 ∷ 118659 ∷ 118691 ∷ 3986 ∷ 128419 ∷ 135043 ∷ 4371268 ∷ 152462757 ∷ 152651 ∷ 152691 ∷ 157795 ∷ 157843 ∷ 5026 ∷ 161043 ∷ 5169540 ∷ 5390724 ∷ 200595 ∷ []) (short_key (name_at s at)) ≡ number_of mnemonics (name_at s at)
-mnemonic-table s at = ap (λ (l : List ℕ). index_from 0 l (short_key (name_at s at))) mnemonic-keys ∙ mnemonic-key s at
+-- ---- the search by keys
 
-pub register-table : (s : List ℕ) (at : ℕ) → index_from 0 (9 ∷ 17 ∷ 4122 ∷ 4994 ∷ 5010 ∷ []) (short_key (name_at s at)) ≡ number_of registers (name_at s at)
-register-table s at = ap (λ (l : List ℕ). index_from 0 l (short_key (name_at s at))) register-keys ∙ register-key s at
+keyed-named : (ns : List (List ℕ)) (ks : List ℕ) (t : List ℕ) → all_short ns ≡ true → ks ≡ map short_key ns → length ks ≡ length ns → keyed_at ks t ≡ named_at ns t
+unfolding keyed_at named_at
+keyed-named ns ks t h e l =
+    let i : index_from 0 ks (short_key (front is_letter t)) ≡ number_of ns (front is_letter t) =
+    ap (λ (q : List ℕ). index_from 0 q (short_key (front is_letter t))) e ∙ number-key ns 0 (front is_letter t) h (front-every is_letter t) in
+    rw (i, l)
 
-word_number : short_key word_letters ≡ 6156836
-unfolding short_key key_from
-word_number = refl
+pub mnemonic-named : (t : List ℕ) → keyed_at (9251 ∷ 11811 ∷ 797796 ∷ 28035 ∷ 35251 ∷ 49563 ∷ 2418 ∷ 85379 ∷ 83339 ∷ 85547 ∷ 85035 ∷ 85155 ∷ 83755 ∷ 83875 ∷ 3106 ∷ 111971 ∷ 116027 ∷ 118659 ∷ 118691 ∷ 3986 ∷ 128419 ∷ 135043 ∷ 4371268 ∷ 152462757 ∷ 152651 ∷ 152691 ∷ 157795 ∷ 157843 ∷ 5026 ∷ 161043 ∷ 5169540 ∷ 5390724 ∷ 200595 ∷ []) t ≡ named_at mnemonics t
+mnemonic-named t = keyed-named mnemonics _ t mnemonics-short mnemonic-keys refl
 
-eqb_swap : (a b : ℕ) → eqb a b ≡ eqb b a
-eqb_swap a b = by_bool (eqb b a) (λ e. rw e (eq-eqb a b (sym (eqb-true b a e)))) (λ e. rw e (by_bool (eqb a b) (λ f. clash (eq-eqb b a (sym (eqb-true a b f))) e) (λ f. f)))
+pub register-named : (t : List ℕ) → keyed_at (9 ∷ 17 ∷ 4122 ∷ 4994 ∷ 5010 ∷ []) t ≡ named_at registers t
+register-named t = keyed-named registers _ t registers-short register-keys refl
 
-pub word-key : (s : List ℕ) (at : ℕ) → eqb (short_key (name_at s at)) 6156836 ≡ same word_letters (name_at s at)
-word-key s at =
-    eqb_swap (short_key (name_at s at)) 6156836 ∙ (ap (λ (k : ℕ). eqb k (short_key (name_at s at))) (sym word_number) ∙ short-key word_letters (name_at s at) word-short (front-every is_letter (drop at s)))
+index-on : (ks : List ℕ) (k x : ℕ) → index_from (suc k) ks x ≡ suc (index_from k ks x)
+unfolding index_from
+index-on [] k x = refl
+index-on (y ∷ ks) k x = by_bool (eqb y x) (λ e. rw e) (λ e. rw e (index-on ks (suc k) x))
 
--- ---- the key of the name at a place, letter by letter
+place-index : (ks : List ℕ) (x : ℕ) → index_from 0 ks x ≡ position_or_len (λ k. k == x) ks
+unfolding index_from
+place-index ks x = is_position_or_len (λ l. index_from 0 l x) (λ k. k == x) refl (λ y ys. ap (cond (y == x) 0) (index-on ys 0 x ∙ omega arith)) ks
 
-pub record Keyed (s : List ℕ) (at i k : ℕ) : Type 0 where
-  pub on : at ≤ i
-  pub within : i ≤ length s
-  pub few : i ≤ at + 5
-  pub small : k < 32 ^ (i - at)
-  pub number : key_from k (name_at s i) ≡ key_from 0 (name_at s at)
-  pub count : length (name_at s i) + (i - at) ≡ length (name_at s at)
+module _ (ks t : List ℕ) (key : ℕ) (e : key ≡ short_key (front is_letter t)) where
+  pub place-some : (i : ℕ) → Some i ≡ position (λ k. k == key) ks → gives i (past is_letter t) ≡ keyed_at ks t
+  unfolding keyed_at
+  place-some i f =
+      by_bool (ltb (position_or_len (λ k. k == key) ks) (length ks))
+      (λ h. let g : Some i ≡ Some (position_or_len (λ k. k == key) ks) = rw h at f in rw (← e, place-index ks key, h, the_number g))
+      (λ h. absurd (no_number (rw h at f)))
+    where
+      the_number : {a b : ℕ} → Some a ≡ Some b → a ≡ b
+      the_number e = cc
 
-pub keyed-first : (s : List ℕ) (at : ℕ) → at ≤ length s → Keyed s at at 0
-keyed-first s at h =
-    let z : at - at ≡ 0 = omega arith in
-    record { on = omega arith; within = h; few = omega arith; small = rw z (omega arith); number = refl; count = omega arith }
+      no_number : {a : ℕ} → Some a ≡ None → ⊥
+      no_number e = cc
 
-powers : (j : ℕ) → j ≤ 5 → 32 ^ j ≤ 33554432
+  pub place-none : None ≡ position (λ k. k == key) ks → refused ≡ keyed_at ks t
+  unfolding keyed_at
+  place-none f =
+      by_bool (ltb (position_or_len (λ k. k == key) ks) (length ks))
+      (λ h. absurd (a_number (rw h at f)))
+      (λ h. rw (← e, place-index ks key, h))
+    where
+      a_number : {a : ℕ} → None ≡ Some a → ⊥
+      a_number e = cc
+
+-- ---- the key of a name, letter by letter
+
+pub letter-at : (t : List ℕ) (i : ℕ) → i < length (front is_letter t) → is_letter (get_or (front is_letter t) i 0) ≡ true
+letter-at t i h = go (front is_letter t) i (front-every is_letter t) h
+  where
+    go : (s : List ℕ) (j : ℕ) → every is_letter s ≡ true → j < length s → is_letter (get_or s j 0) ≡ true
+    go [] j e l = absurd (omega arith)
+    go (b ∷ s) zero e l = every-head is_letter b s e
+    go (b ∷ s) (suc j) e l = go s j (every-tail is_letter b s e) (omega arith)
+
+pub letter-within : (t n : List ℕ) (i : ℕ) → n ≡ front is_letter t → i < length n → (97 ≤ get_or n i 0) × (get_or n i 0 ≤ 122)
+letter-within t n i e h = letter-bounds (get_or n i 0) (ap (λ (s : List ℕ). is_letter (get_or s i 0)) e ∙ letter-at t i (rw e at h))
+
+pub powers : (j : ℕ) → j ≤ 5 → 32 ^ j ≤ 33554432
 powers zero h = omega arith
 powers (suc zero) h = omega arith
 powers (suc (suc zero)) h = omega arith
@@ -146,62 +167,21 @@ powers (suc (suc (suc (suc zero)))) h = omega arith
 powers (suc (suc (suc (suc (suc zero))))) h = omega arith
 powers (suc (suc (suc (suc (suc (suc j)))))) h = absurd (omega arith)
 
-module _ (s : List ℕ) (at i k : ℕ) (q : Keyed s at i k) where
-  pub key-small : k < 33554432
-  key-small = let a = q.small in let b = q.few in let p = powers (i - at) (omega arith) in omega arith
+pub key-more : (n : List ℕ) (i k : ℕ) → i < length n → key_from (k * 32 + (get_or n i 0 - 96)) (drop (i + 1) n) ≡ key_from k (drop i n)
+unfolding key_from
+key-more n i k h = rw (drop-cons n i 0 h, add-one)
 
-  pub keyed-more : is_letter (head (drop i s)) ≡ true → (i - at ≡ 5 → ⊥) → Keyed s at (i + 1) (k * 32 + (head (drop i s) - 96))
-  unfolding key_from
-  keyed-more l z =
-      let o = q.on in
-      let f = q.few in
-      let w = inside is_letter letter-ends s i l in
-      let b = letter-bounds (head (drop i s)) l in
-      let m = q.small in
-      let p = pow-suc 32 (i - at) in
-      let e : i + 1 - at ≡ suc (i - at) = omega arith in
-      let n : name_at s i ≡ head (drop i s) ∷ name_at s (i + 1) = front-on is_letter letter-ends (drop i s) l ∙ ap (λ (t : List ℕ). head (drop i s) ∷ front is_letter t) (tail-drop s i) in
-      let c = ap length n in
-      let d = q.count in
-      record { on = omega arith; within = omega arith; few = omega arith; small = rw e (omega arith); number = sym (ap (key_from k) n) ∙ q.number; count = omega arith }
+pub key-small : (i k b : ℕ) → k < 32 ^ i → b ≤ 122 → k * 32 + (b - 96) < 32 ^ (i + 1)
+key-small i k b h l = let p = pow-suc 32 i in rw add-one (omega arith)
 
-  pub keyed-long : is_letter (head (drop i s)) ≡ true → i - at ≡ 5 → 0 ≡ short_key (name_at s at)
-  unfolding short_key
-  keyed-long l z =
-      let n = ap length (front-on is_letter letter-ends (drop i s) l) in
-      let d = q.count in
-      rw (lt-leb (length (name_at s at)) 5 (omega arith))
+pub key-end : (n : List ℕ) (i k : ℕ) → length n ≤ i → key_from k (drop i n) ≡ k
+unfolding key_from
+key-end n i k h = rw (drop_past n i h)
 
-  pub keyed-end : is_letter (head (drop i s)) ≡ false → k * 8 + (i - at) ≡ short_key (name_at s at)
-  unfolding short_key key_from
-  keyed-end l =
-      let f = q.few in
-      let d = q.count in
-      let n : name_at s i ≡ [] = front-off is_letter letter-ends (drop i s) l in
-      let c = ap length n in
-      let e : k ≡ key_from 0 (name_at s at) = sym (ap (key_from k) n) ∙ q.number in
-      rw (le-leb (length (name_at s at)) 5 (omega arith)) (omega arith)
+pub key_is : (n : List ℕ) (k : ℕ) → length n ≤ 5 → k ≡ key_from 0 n → k * 8 + length n ≡ short_key n
+unfolding short_key
+key_is n k h e = rw (le-leb (length n) 5 h, ← e)
 
--- ---- the search for a key
-
-module _ (ks : List ℕ) (x i : ℕ) (h : i < length ks) where
-  pub index-here : get_or ks i 0 ≡ x → i ≡ index_from i (drop i ks) x
-  unfolding index_from
-  index-here e = rw (drop-cons ks i 0 h, eq-eqb (get_or ks i 0) x e)
-
-  pub index-next : (get_or ks i 0 ≡ x → ⊥) → index_from (i + 1) (drop (i + 1) ks) x ≡ index_from i (drop i ks) x
-  unfolding index_from
-  index-next e = rw (add-one, drop-cons ks i 0 h, ne_eqb (get_or ks i 0) x e)
-
-pub index-none : (ks : List ℕ) (x i : ℕ) → length ks ≤ i → i ≡ index_from i (drop i ks) x
-unfolding index_from
-index-none [] x zero h = refl
-index-none [] x (suc i) h = refl
-index-none (k ∷ ks) x zero h = absurd (omega arith)
-index-none (k ∷ ks) x (suc i) h = go ks (suc i) i (omega arith)
-  where
-    go : (l : List ℕ) (j m : ℕ) → length l ≤ m → j ≡ index_from j (drop m l) x
-    go [] j zero e = refl
-    go [] j (suc m) e = refl
-    go (a ∷ l) j zero e = absurd (omega arith)
-    go (a ∷ l) j (suc m) e = go l j m (omega arith)
+pub key-long : (n : List ℕ) → 5 < length n → 0 ≡ short_key n
+unfolding short_key
+key-long n h = rw (lt-leb (length n) 5 h)

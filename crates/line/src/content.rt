@@ -1,150 +1,90 @@
 // What stands in a cell, and the line around it.
-ghost use Rattle.std.specs.Prelude.{◌≡◌, ◌≤◌, ◌<◌, length, drop};
-ghost use Rattle.expression.specs.Reader.{then};
+ghost use Rattle.std.specs.Prelude.{◌≡◌, ◌<◌};
+ghost use Rattle.expression.specs.Reader.{skip};
 ghost use Rattle.expression.specs.Values.{values, no_labels};
-ghost use Rattle.expression.specs.Table.{lookup, Usable};
+ghost use Rattle.expression.specs.Labels.{lookup};
+ghost use Rattle.expression.specs.Code.{read_as};
 ghost use Rattle.assembly.specs.Reader.{coded, operands, word_after, content, ended, row};
-ghost use Rattle.line.specs.Code.{arg_told, arg_read_told, ArgIn, as_word, BodyIs, body_read_told, BodyIn, LineIs, label_told, second_of};
+ghost use Rattle.line.specs.Code.{arg_told, body_told, label_told, line_told};
 
-use super::names::{is_word, mnemonic};
-use super::operands::{as_value, operand, without_value};
-use super::{Arg, ArgRead, Body, BodyRead, Line, LineRead};
+use super::names::mnemonic;
+use super::operands::{DEPTH, operand};
+use super::{Arg, Body, Line};
 use encoding::forms::is_legal;
-use expression::{is_space, peek, skip_letters, skip_spaces};
+use expression::labels::Labels;
+use expression::text::{is_same, skip_spaces, split_label, split_name, token};
+use expression::{Read, sum};
 
 // Only one of the 124 forms.
-pub fn coded(s: &[u8], op: u32, x: Arg, r: ArgRead) -> BodyRead
-    requires { (op < 33) × (x.mode < 6) × ArgIn s.now r }
-    ensures { BodyIs s.now (then (arg_read_told s.now r) (λ y v. coded (values no_labels) 32 op (arg_told x) y v)) result }
+pub fn coded(op: u32, x: Arg, y: Arg, rest: &[u8]) -> Read<'_, Body>
+    requires { op < 33 }
+    ensures { read_as body_told result ≡ coded (values no_labels) 32 op (arg_told x) (arg_told y) rest.now }
 {
-    let ArgRead::Is(y, n) = r else {
-        return BodyRead::Not;
-    };
-    if is_legal(op, x.mode, y.mode) {
-        return BodyRead::Is(Body { op, x, y }, n);
+    if is_legal(op, x.mode(), y.mode()) {
+        Some((Body::Code(op, x, y), rest))
+    } else {
+        None
     }
-    BodyRead::Not
 }
 
-// After the first operand: a comma and the second, or nothing.
-pub fn second(s: &[u8], labels: &[usize], op: u32, r: ArgRead) -> BodyRead
-    requires { (op < 33) × ArgIn s.now r × Usable labels.now }
-    ensures { BodyIs s.now (then (arg_read_told s.now r) (second_of (lookup s.now labels.now) op)) result }
-{
-    let ArgRead::Is(x, n) = r else {
-        return BodyRead::Not;
-    };
-    if peek(s, n) == 44 {
-        let i = skip_spaces(s, n + 1);
-        return coded(s, op, x, operand(s, labels, i));
-    }
-    coded(s, op, x, ArgRead::Is(without_value(0, 0), n))
-}
-
-// The operands of an operation after its mnemonic.
-pub fn operands(s: &[u8], labels: &[usize], op: u32, at: usize) -> BodyRead
-    requires { (op < 33) × (at ≤ length s.now) × Usable labels.now }
-    ensures { BodyIs s.now (operands (values (lookup s.now labels.now)) 32 op (drop at s.now)) result }
+// The operands of an operation after its mnemonic: none, one, or two with a comma between.
+pub fn operands<'a>(op: u32, s: &'a [u8], labels: &Labels) -> Read<'a, Body>
+    requires { op < 33 }
+    ensures { read_as body_told result ≡ operands (values (lookup labels.now)) 32 op s.now }
 {
     if is_legal(op, 0, 0) {
-        let n = skip_spaces(s, at);
-        return BodyRead::Is(
-            Body {
-                op,
-                x: without_value(0, 0),
-                y: without_value(0, 0),
-            },
-            n,
-        );
+        return Some((Body::Code(op, Arg::None, Arg::None), skip_spaces(s)));
     }
-    if is_space(peek(s, at)) {
-        let i = skip_spaces(s, at);
-        return second(s, labels, op, operand(s, labels, i));
-    }
-    BodyRead::Not
-}
-
-pub fn as_word(r: ArgRead) -> BodyRead
-    ensures { result ≡ as_word r }
-{
-    let ArgRead::Is(x, n) = r else {
-        return BodyRead::Not;
+    let first = token(s, b' ')?;
+    let (x, rest) = operand(first, labels)?;
+    let Some(second) = token(rest, b',') else {
+        return coded(op, x, Arg::None, rest);
     };
-    BodyRead::Is(
-        Body {
-            op: 33,
-            x,
-            y: without_value(0, 0),
-        },
-        n,
-    )
+    let (y, rest) = operand(second, labels)?;
+    coded(op, x, y, rest)
 }
 
 // The value after `.word`.
-pub fn word_after(s: &[u8], labels: &[usize], at: usize) -> BodyRead
-    requires { (at ≤ length s.now) × Usable labels.now }
-    ensures { BodyIs s.now (word_after (values (lookup s.now labels.now)) 32 (drop at s.now)) result }
+pub fn word_after<'a>(s: &'a [u8], labels: &Labels) -> Read<'a, Body>
+    ensures { read_as body_told result ≡ word_after (values (lookup labels.now)) 32 s.now }
 {
-    if is_space(peek(s, at)) {
-        let i = skip_spaces(s, at);
-        return as_word(as_value(1, 0, expression::sum(s, labels, i, 32)));
-    }
-    BodyRead::Not
+    let first = token(s, b' ')?;
+    let (value, rest) = sum(first, labels, DEPTH)?;
+    Some((Body::Word(value), rest))
 }
 
-pub fn content(s: &[u8], labels: &[usize], at: usize) -> BodyRead
-    requires { (at ≤ length s.now) × Usable labels.now }
-    ensures { BodyIs s.now (content (values (lookup s.now labels.now)) 32 (drop at s.now)) result }
+pub fn content<'a>(s: &'a [u8], labels: &Labels) -> Read<'a, Body>
+    ensures { read_as body_told result ≡ content (values (lookup labels.now)) 32 s.now }
 {
-    if peek(s, at) == 46 {
-        if is_word(s, at + 1) {
-            let to = skip_letters(s, at + 1);
-            return word_after(s, labels, to);
+    if let [b'.', rest @ ..] = s {
+        let (name, rest) = split_name(rest);
+        if is_same(b"word", name) {
+            return word_after(rest, labels);
         }
-        return BodyRead::Not;
+        return None;
     }
-    let op = mnemonic(s, at);
-    if op < 33 {
-        let to = skip_letters(s, at);
-        return operands(s, labels, op as u32, to);
-    }
-    BodyRead::Not
+    let (op, rest) = mnemonic(s)?;
+    operands(op, rest, labels)
 }
 
-// The line end after what stands in the cell.
-pub fn ended(s: &[u8], labelled: bool, name: usize, r: BodyRead) -> LineRead
-    requires { BodyIn s.now r }
-    ensures { LineIs s.now (ended (values no_labels) 32 (label_told s.now labelled name) (body_read_told s.now r)) result }
+// A line's content and its end, after its label.
+pub fn ended<'a>(label: Option<&'a [u8]>, s: &'a [u8], labels: &Labels) -> Read<'a, Line<'a>>
+    ensures { read_as line_told result ≡ ended (values (lookup labels.now)) 32 (label_told label.entry) (content (values (lookup labels.now)) 32 (skip s.now)) }
 {
-    let BodyRead::Is(body, n) = r else {
-        return LineRead::Not;
-    };
-    if peek(s, n) == 10 {
-        return LineRead::Is(
-            Line {
-                labelled,
-                name,
-                body,
-            },
-            n + 1,
-        );
+    let (body, rest) = content(skip_spaces(s), labels)?;
+    match rest {
+        [b'\n', rest @ ..] => Some((Line { label, body }, rest)),
+        _ => None,
     }
-    LineRead::Not
 }
 
 // A line, its end included.
-pub fn row(s: &[u8], labels: &[usize], at: usize) -> LineRead
-    requires { (at ≤ length s.now) × Usable labels.now }
-    ensures { LineIs s.now (row (values (lookup s.now labels.now)) 32 (drop at s.now)) result }
+pub fn row<'a>(s: &'a [u8], labels: &Labels) -> Read<'a, Line<'a>>
+    ensures { read_as line_told result ≡ row (values (lookup labels.now)) 32 s.now }
 {
-    let i = skip_spaces(s, at);
-    let j = skip_letters(s, i);
-    if (i < j) & (peek(s, j) == 58) {
-        if j - i <= 16 {
-            let k = skip_spaces(s, j + 1);
-            return ended(s, true, i, content(s, labels, k));
-        }
-        return LineRead::Not;
+    match split_label(s) {
+        Some((name, _)) if name.len() > 16 => None,
+        Some((name, rest)) => ended(Some(name), rest, labels),
+        None => ended(None, s, labels),
     }
-    ended(s, false, 0, content(s, labels, i))
 }

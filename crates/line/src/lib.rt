@@ -1,57 +1,54 @@
 // A line of a program written as text: its operands, what stands in its cell, its label.
 #![tactic(auto)]
 
+ghost use Rattle.std.specs.Prelude.{◌≡◌, ◌<◌};
+
 pub mod content;
 pub mod names;
 pub mod operands;
 
 use expression::Value;
 
-// An operand by its mode, 0 to 5, with the register and the value of that mode.
+// An operand, by its mode. A register's number is the place of its name, and a digit of the tag.
 #[derive(Clone, Copy)]
-pub struct Arg {
-    pub mode: u32,
-    pub reg: u32,
-    pub value: Value,
+pub enum Arg {
+    None,
+    Imm(Value),
+    Reg(u32),
+    Dir(Value),
+    Ind(u32),
+    Idx(u32, Value),
 }
 
-// What stands in a cell: an operation, or with 33 the value of x.
+// What stands in a cell: a value, or an operation by its number, the place of its mnemonic and a part of the tag.
 #[derive(Clone, Copy)]
-pub struct Body {
-    pub op: u32,
-    pub x: Arg,
-    pub y: Arg,
+pub enum Body {
+    Word(Value),
+    Code(u32, Arg, Arg),
 }
 
-// A line, and where its label stands if it has one.
+// A line, and its label if it has one.
 #[derive(Clone, Copy)]
-pub struct Line {
-    pub labelled: bool,
-    pub name: usize,
+pub struct Line<'a> {
+    pub label: Option<&'a [u8]>,
     pub body: Body,
 }
 
-// What was read and the place after it, or nothing.
-#[derive(Clone, Copy)]
-pub enum RegisterRead {
-    Is(u32, usize),
-    Not,
-}
+impl Arg {
+    ghost use Rattle.assembly.specs.Grammar.{mode};
+    ghost use Rattle.line.specs.Code.{arg_told};
 
-#[derive(Clone, Copy)]
-pub enum ArgRead {
-    Is(Arg, usize),
-    Not,
-}
-
-#[derive(Clone, Copy)]
-pub enum BodyRead {
-    Is(Body, usize),
-    Not,
-}
-
-#[derive(Clone, Copy)]
-pub enum LineRead {
-    Is(Line, usize),
-    Not,
+    #[tactic(auto, unfolding(assembly::specs::Grammar::mode))]
+    pub fn mode(self) -> u32
+        ensures { (result ≡ mode (arg_told self)) × (result < 6) }
+    {
+        match self {
+            Arg::None => 0,
+            Arg::Imm(_) => 1,
+            Arg::Reg(_) => 2,
+            Arg::Dir(_) => 3,
+            Arg::Ind(_) => 4,
+            Arg::Idx(_, _) => 5,
+        }
+    }
 }

@@ -1,12 +1,12 @@
 // Mnemonics and registers: a name of at most 5 letters is one number, its key, and is looked up by it.
-ghost use Rattle.std.specs.Prelude.{◌≡◌, ◌≤◌, length};
-ghost use Rattle.expression.specs.Table.{name_at};
+ghost use Rattle.std.specs.Prelude.{◌≡◌, ◌≤◌, ◌==◌, length, position};
+ghost use Rattle.expression.specs.Reader.{front, past, is_letter};
+ghost use Rattle.expression.specs.Code.{told};
 ghost use Rattle.assembly.specs.Grammar.{mnemonics, registers};
-ghost use Rattle.assembly.specs.Reader.{number_of};
-ghost use Rattle.line.specs.Names.{short_key, index_from, word_letters};
-ghost use Rattle.expression.specs.Reader.{same};
+ghost use Rattle.line.specs.Names.{short_key, keyed_at, named_at};
 
-use expression::{is_letter, peek};
+use expression::Read;
+use expression::text::split_name;
 
 // The keys of the mnemonics, in the order of `Instruction`.
 pub const MNEMONICS: [u64; 33] = [
@@ -18,57 +18,48 @@ pub const MNEMONICS: [u64; 33] = [
 // The keys of a, b, pc, sp and sr.
 pub const REGISTERS: [u64; 5] = [9, 17, 4122, 4994, 5010];
 
-// The key of the name at a place, 0 for one of more letters.
-pub fn key_at(s: &[u8], at: usize) -> u64
-    requires { at ≤ length s.now }
-    ensures { result ≡ short_key (name_at s.now at) }
+// The key of the name that a text begins with, 0 for one of more than 5 letters, and the rest.
+pub fn split_key(s: &[u8]) -> (u64, &[u8])
+    ensures { (result.0 ≡ short_key (front is_letter s.now)) × (result.1.now ≡ past is_letter s.now) }
 {
+    let (name, rest) = split_name(s);
+    if name.len() > 5 {
+        return (0, rest);
+    }
     let mut key: u64 = 0;
-    let mut i = at;
-    while is_letter(peek(s, i)) {
-        if i - at == 5 {
-            return 0;
-        }
-        key = key * 32 + (peek(s, i) - 96) as u64;
-        i += 1;
+    for letter in name {
+        key = key * 32 + (*letter - 96) as u64;
     }
-    key * 8 + (i - at) as u64
+    (key * 8 + name.len() as u64, rest)
 }
 
-// The place of a key among keys, their count if it is not there.
-pub fn position(keys: &[u64], key: u64) -> usize
-    ensures { result ≡ index_from 0 keys.now key }
+// The place of a key among keys.
+pub fn place(keys: &[u64], key: u64) -> Option<usize>
+    ensures { result ≡ position (λ k. k == key) keys.now }
 {
-    let mut i: usize = 0;
-    while i < keys.len() {
-        if keys[i] == key {
-            return i;
-        }
-        i += 1;
-    }
-    i
+    keys.iter().position(|k| *k == key)
 }
 
-// The number of the mnemonic at a place, 33 if there is none.
-pub fn mnemonic(s: &[u8], at: usize) -> usize
-    requires { at ≤ length s.now }
-    ensures { result ≡ number_of mnemonics (name_at s.now at) }
+// The place of the name that a text begins with, by the keys of names, and the rest.
+fn named<'a>(keys: &[u64], s: &'a [u8]) -> Read<'a, u32>
+    requires { length keys.now ≤ 33 }
+    ensures { told result ≡ keyed_at keys.now s.now }
 {
-    position(&MNEMONICS, key_at(s, at))
+    let (key, rest) = split_key(s);
+    let place = place(keys, key)?;
+    Some((place as u32, rest))
 }
 
-// The number of the register whose name stands at a place, 5 if there is none.
-pub fn register_number(s: &[u8], at: usize) -> usize
-    requires { at ≤ length s.now }
-    ensures { result ≡ number_of registers (name_at s.now at) }
+// The number of the mnemonic that a text begins with, and the rest.
+pub fn mnemonic(s: &[u8]) -> Read<'_, u32>
+    ensures { told result ≡ named_at mnemonics s.now }
 {
-    position(&REGISTERS, key_at(s, at))
+    named(&MNEMONICS, s)
 }
 
-// Whether `word` stands at a place.
-pub fn is_word(s: &[u8], at: usize) -> bool
-    requires { at ≤ length s.now }
-    ensures { result ≡ same word_letters (name_at s.now at) }
+// The number of the register whose name a text begins with, and the rest.
+pub fn register_name(s: &[u8]) -> Read<'_, u32>
+    ensures { told result ≡ named_at registers s.now }
 {
-    key_at(s, at) == 6156836
+    named(&REGISTERS, s)
 }

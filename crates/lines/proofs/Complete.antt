@@ -5,6 +5,7 @@ use mathlib.Core.List.{List, [], ◌∷◌, ◌++◌, foldl, foldl-append}
 use Prim.Native.Nat.{ℕ, suc, ◌+◌, ◌*◌, ◌-◌, ◌≤◌, ◌<◌}
 use native.Mathlib.Omega.{arith}
 use lib.IntN.{ℤ, pos, nat_abs}
+use Rattle.std.specs.Prelude.{None}
 use borrow.Author.Tests.{lt-ltb, le-ltb, le-leb, ne_eqb}
 use Rattle.definition.specs.Word.{address_of}
 use Rattle.definition.specs.Memory.{cell, put_cell}
@@ -148,7 +149,7 @@ complete (G.image {k} {u} {v} {pc} {sp} {sr} {m} a b) h =
     let r = cell-lines b (start_of pc sp sr) (foldl step (state opened empty_cells) u) (omega arith) (record { x = pos 0; y = pc; z = sp; is = start-line a }) in
     record { x = r.x; y = r.y; z = r.z; is = foldl-append step (state opened empty_cells) u v ∙ rw e at r.is }
 
--- What such a reader answers: 0, and so no line broke the form.
-pub answers-0 : {n : ℕ} {st : Start} {m : List ℤ} {u : State} → Reached n st m u → broken_line u.reader ≡ 0
+-- Such a reader names no line that breaks the form.
+pub answers-none : {n : ℕ} {st : Start} {m : List ℤ} {u : State} → Reached n st m u → broken_line u.reader ≡ None
 unfolding broken_line
-answers-0 {n} {st} {m} {u} r = ap (λ (w : State). broken_line w.reader) r.is
+answers-none {n} {st} {m} {u} r = ap (λ (w : State). broken_line w.reader) r.is

@@ -6,6 +6,7 @@ use Prim.Native.Nat.{ℕ, zero, suc, ◌+◌, ◌*◌, ◌-◌, ◌≤◌, ◌<�
 use native.Mathlib.Omega.{arith}
 use native.Mathlib.Numerals.{add-one}
 use lib.Dec.{eqb, ltb, leb}
+use Rattle.std.specs.Prelude.{Option, Some, None}
 use lib.IntN.{ℤ, pos, nat_abs}
 use lib.ListN.{length, take, length-append}
 use borrow.Author.Tests.{ltb-true, ltb-false, leb-true, eqb-true, lt-ltb, eq-eqb, ne_eqb}
@@ -35,7 +36,7 @@ either P false p q = q
 
 -- ---- a broken reader stays, and no line number falls
 
-dead-stays : (u : State) (b : ℕ) → u.reader.broken ≡ true → step u b ≡ u
+pub dead-stays : (u : State) (b : ℕ) → u.reader.broken ≡ true → step u b ≡ u
 unfolding step line_end within
 dead-stays u b h = by_bool (eqb b 10) (λ e. rw (e, h)) (λ e. rw (e, h))
 
@@ -419,7 +420,7 @@ known s h =
 
 -- ---- what the answer says
 
-dead-line : (r : Reader) → r.broken ≡ true → broken_line r ≡ r.line
+dead-line : (r : Reader) → r.broken ≡ true → broken_line r ≡ Some r.line
 unfolding broken_line
 dead-line r h = rw h
 
@@ -442,17 +443,17 @@ either-false : (a b : Bool) → (a || b) ≡ false → (a ≡ false) × (b ≡ f
 either-false true b e = absurd (true≢false e)
 either-false false b e = (refl, e)
 
-read_whole : {k : ℕ} {p : List ℕ} {st : Start} {m : List ℤ} {r₀ u : State} (s q : List ℕ) → s ≡ p ++ q → Began k p st m r₀ → Part k st m q u → broken_line u.reader ≡ 0 → Accepted s u
+read_whole : {k : ℕ} {p : List ℕ} {st : Start} {m : List ℤ} {r₀ u : State} (s q : List ℕ) → s ≡ p ++ q → Began k p st m r₀ → Part k st m q u → broken_line u.reader ≡ None → Accepted s u
 unfolding broken_line
-read_whole s q c f (dead' {u = u} h l) e = absurd (let z = dead-line u.reader h in omega arith)
-read_whole s q c f (alive (opening i h)) e = absurd (omega arith)
+read_whole s q c f (dead' {u = u} h l) e = absurd (let z = dead-line u.reader h in cc)
+read_whole s q c f (alive (opening i h)) e = absurd (cc)
 read_whole s q c nothing (alive (fields {c = n} {f = g} cs r)) e =
     by_bool ((g.minus || g.digits) || ltb 0 n)
-    (λ t. absurd (let z : 1 ≡ 0 = rw t at e in omega arith))
+    (λ t. absurd (let z : Some 1 ≡ None = rw t at e in cc))
     (λ t. absurd (let o = first-has cs refl in let l = ltb-false 0 n (either-false (g.minus || g.digits) (ltb 0 n) t).1 in omega arith))
 read_whole s q c (lines {k} {p} {pc} {sp} {sr} {m = m} i) (alive (fields {c = n} {s = w} {a} {f = g} cs r)) e =
     by_bool ((g.minus || g.digits) || ltb 0 n)
-    (λ t. absurd (let z : k + 1 ≡ 0 = rw t at e in omega arith))
+    (λ t. absurd (let z : Some (k + 1) ≡ None = rw t at e in cc))
     (λ t.
     let o = either-false (g.minus || g.digits) (ltb 0 n) t in
     let l = ltb-false 0 n o.1 in
@@ -461,8 +462,8 @@ read_whole s q c (lines {k} {p} {pc} {sp} {sr} {m = m} i) (alive (fields {c = n}
     let s' : s ≡ p = rw (w', a', append-nil) at c in
     record { n = k; image = subst (λ (j : List ℕ). Image k j pc sp sr m) (sym s') i })
 
--- Where the answer is 0, the text is an image, and the reader holds it.
-pub accepted : (s : List ℕ) → length s < 18446744073709551615 → broken_line (read_text s).reader ≡ 0 → Accepted s (read_text s)
+-- Where no line breaks the form, the text is an image, and the reader holds it.
+pub accepted : (s : List ℕ) → length s < 18446744073709551615 → broken_line (read_text s).reader ≡ None → Accepted s (read_text s)
 accepted s h e =
     let a = known s h in
     read_whole s a.q a.cut a.front a.part e
@@ -476,11 +477,11 @@ front_of : {k : ℕ} {p : List ℕ} {st : Start} {m : List ℤ} {r₀ : State} �
 front_of nothing = G.nothing
 front_of (lines i) = G.lines i
 
--- a reader that stands at the start of a line answers 0, unless no line stands before
-some_left : {k : ℕ} {p : List ℕ} {st : Start} {m : List ℤ} {r₀ : State} → Began k p st m r₀ → (n : ℕ) → broken_line r₀.reader ≡ n + 1 → k ≡ 0
+-- a reader that stands at the start of a line names none, unless no line stands before
+some_left : {k : ℕ} {p : List ℕ} {st : Start} {m : List ℤ} {r₀ : State} → Began k p st m r₀ → (n : ℕ) → broken_line r₀.reader ≡ Some (n + 1) → k ≡ 0
 unfolding broken_line
 some_left nothing n e = refl
-some_left (lines i) n e = absurd (omega arith)
+some_left (lines i) n e = absurd (cc)
 
 -- no line in order stands in front of what was read onto a line without its end
 none-good : {k : ℕ} {p : List ℕ} {st : Start} {m : List ℤ} {r₀ : State} (l v : List ℕ) → Began k p st m r₀ → k < 18446744073709551614 → Good k l → (foldl step r₀ (l ++ v)).reader.line ≡ k + 1 → ⊥
@@ -502,19 +503,19 @@ none-good l v (lines {k = suc k} {pc = pc} {sp} {sr} {x} {y} {z} {m} i) h (G.lat
     let t = ap (λ (u : State). u.reader.line) (foldl-append step r l v) in
     omega arith
 
-answer-line : (r : Reader) (n : ℕ) → broken_line r ≡ n + 1 → r.line ≡ n + 1
+answer-line : (r : Reader) (n : ℕ) → broken_line r ≡ Some n → r.line ≡ n
 unfolding broken_line
 answer-line r n e =
     by_bool (r.broken || ((r.field.minus || r.field.digits) || ltb 0 r.count))
-    (λ t. rw t at e)
-    (λ t. absurd (let z : 0 ≡ n + 1 = rw t at e in omega arith))
+    (λ t. let z : Some r.line ≡ Some n = rw t at e in cc)
+    (λ t. absurd (let z : None ≡ Some n = rw t at e in cc))
 
--- Where the answer is n + 1, that line breaks the form, and n lines in order stand before it.
-pub refused : (s : List ℕ) (n : ℕ) → length s < 18446744073709551614 → broken_line (read_text s).reader ≡ n + 1 → Breaks n s
+-- Where the answer is line n + 1, that line breaks the form, and n lines in order stand before it.
+pub refused : (s : List ℕ) (n : ℕ) → length s < 18446744073709551614 → broken_line (read_text s).reader ≡ Some (n + 1) → Breaks n s
 refused s n h e =
     let a = known s (omega arith) in
     let l = part-line a.part in
-    let l' = answer-line (read_text s).reader n e in
+    let l' = answer-line (read_text s).reader (n + 1) e in
     let k : a.k ≡ n = omega arith in
     let d = a.reads in
     let few = a.few in
@@ -549,8 +550,8 @@ image-long (G.image {k} {u} {v} a b) =
     let y = cells-long b in
     simp length-append (omega arith)
 
--- A text of the grammar is answered 0, and the reader holds its image.
-pub taken : {n : ℕ} {s : List ℕ} {pc sp sr : ℤ} {m : List ℤ} → length s < 18446744073709551615 → Image n s pc sp sr m → (broken_line (read_text s).reader ≡ 0) × (((read_text s).reader.start ≡ start_of pc sp sr) × ((read_text s).cells ≡ m))
+-- In a text of the grammar no line breaks the form, and the reader holds its image.
+pub taken : {n : ℕ} {s : List ℕ} {pc sp sr : ℤ} {m : List ℤ} → length s < 18446744073709551615 → Image n s pc sp sr m → (broken_line (read_text s).reader ≡ None) × (((read_text s).reader.start ≡ start_of pc sp sr) × ((read_text s).cells ≡ m))
 unfolding broken_line
 taken {n} {s} {pc} {sp} {sr} {m} h i =
     let l = image-long i in
@@ -596,9 +597,9 @@ unended k st m (b ∷ q) d u w none =
     subst (λ (j : List ℕ). Part k st m j (foldl step (step u b) q)) e (unended-by q (d ++ (b ∷ [])) (within_step b w) (unended k st m q) (λ l v z. none l v (sym e ∙ z)))
 
 -- where such a line has a byte, or is the first, its number is the answer
-open-line : {k : ℕ} {st : Start} {m : List ℤ} {q : List ℕ} {u : State} → Part k st m q u → (q ≡ [] → k ≡ 0) → broken_line u.reader ≡ k + 1
+open-line : {k : ℕ} {st : Start} {m : List ℤ} {q : List ℕ} {u : State} → Part k st m q u → (q ≡ [] → k ≡ 0) → broken_line u.reader ≡ Some (k + 1)
 unfolding broken_line
-open-line (dead' {u = u} h l) z = dead-line u.reader h ∙ l
+open-line (dead' {u = u} h l) z = dead-line u.reader h ∙ ap Some l
 open-line (alive (opening i h)) z = refl
 open-line (alive (fields {k} {c = n} {s = w} {a} {f = g} cs r)) z =
     by_bool ((g.minus || g.digits) || ltb 0 n)
@@ -630,7 +631,7 @@ begun (G.lines {k} {p} {pc} {sp} {sr} {m} i) h =
     record { st = start_of pc sp sr; m = m; start = subst (Within k (start_of pc sp sr) m []) (sym r.is) (next-line r.x r.y r.z i) }
 
 -- The line that breaks the form is the one that the reader answers.
-pub broken-at : {k : ℕ} {s : List ℕ} → length s < 18446744073709551615 → Breaks k s → broken_line (read_text s).reader ≡ k + 1
+pub broken-at : {k : ℕ} {s : List ℕ} → length s < 18446744073709551615 → Breaks k s → broken_line (read_text s).reader ≡ Some (k + 1)
 unfolding read_text
 broken-at {k} {s} h b =
     let n = ap length b.cut ∙ length-append b.p b.q in
@@ -640,9 +641,10 @@ broken-at {k} {s} h b =
 
 -- So only one line can be the lowest that breaks the form.
 pub one-broken : {j k : ℕ} {s : List ℕ} → length s < 18446744073709551615 → Breaks j s → Breaks k s → j ≡ k
-one-broken h a b =
+one-broken {j} {k} h a b =
     let x = broken-at h a in
     let y = broken-at h b in
+    let e : j + 1 ≡ k + 1 = cc in
     omega arith
 
 -- And none of an image does.
@@ -650,7 +652,7 @@ pub none-broken : {n k : ℕ} {s : List ℕ} {pc sp sr : ℤ} {m : List ℤ} →
 none-broken h i b =
     let x = (taken h i).0 in
     let y = broken-at h b in
-    omega arith
+    cc
 
 -- Each text is an image or breaks at a line.
 pub data Judged (s : List ℕ) : Type 0 where
@@ -660,6 +662,11 @@ pub data Judged (s : List ℕ) : Type 0 where
 pub judged : (s : List ℕ) → length s < 18446744073709551614 → Judged s
 judged s h = go (broken_line (read_text s).reader) refl
   where
-    go : (n : ℕ) → broken_line (read_text s).reader ≡ n → Judged s
-    go zero e = image (accepted s (omega arith) e)
-    go (suc k) e = breaking k (refused s k h (e ∙ omega arith))
+    go : (n : Option ℕ) → broken_line (read_text s).reader ≡ n → Judged s
+    go None e = image (accepted s (omega arith) e)
+    go (Some n) e =
+        let a = known s (omega arith) in
+        let l = part-line a.part in
+        let m = answer-line (read_text s).reader n e in
+        let k : n ≡ a.k + 1 = omega arith in
+        breaking a.k (refused s a.k h (e ∙ ap Some k))

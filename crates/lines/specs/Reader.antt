@@ -1,5 +1,5 @@
 -- The reader of numeric lines, as a fold over the bytes of the text.
-use Rattle.std.specs.Prelude.{true, false, cond, ◌&&◌, ◌||◌, ℕ, ◌+◌, ◌*◌, ◌-◌, ℤ, pos, nat_abs, get_or, replicate, ltb, leb, eqb}
+use Rattle.std.specs.Prelude.{true, false, cond, ◌&&◌, ◌||◌, ℕ, ◌+◌, ◌*◌, ◌-◌, ℤ, pos, nat_abs, get_or, replicate, ltb, leb, eqb, Option, Some, None}
 use mathlib.Core.List.{List, [], ◌∷◌, ◌++◌, foldl}
 use Rattle.definition.specs.declared.Cell.{Cell}
 use Rattle.definition.specs.Word.{address_of}
@@ -10,6 +10,7 @@ unfoldable pub use Rattle.decimal.specs.Decimal.{value_of}
 pub use Rattle.decimal.specs.Decimal.{limit}
 use Rattle.lines.specs.declared.Field.{Field}
 use Rattle.lines.specs.declared.Reader.{Reader}
+pub use Rattle.lines.specs.declared.State.{State}
 
 -- Nothing of a field yet.
 abbrev pub no_field : Field
@@ -92,10 +93,6 @@ start_line r =
     (broken r)
 
 -- The reader, and the cells that it wrote.
-pub record State : Type 0 where
-  pub reader : Reader
-  pub cells : List ℤ
-
 abbrev pub state : Reader → List ℤ → State
 state r cells = record { reader = r; cells = cells }
 
@@ -127,17 +124,21 @@ line_end s =
 unfoldable pub step : State → ℕ → State
 step s b = cond (eqb b 10) (line_end s) (state (within s.reader b) s.cells)
 
--- At the end of the text: 0 where it is an image, else the number of the line that breaks the form.
-unfoldable pub broken_line : Reader → ℕ
-broken_line r = cond (r.broken || ((r.field.minus || r.field.digits) || ltb 0 r.count)) r.line 0
+-- At the end of the text: none where it is an image, else the number of the line that breaks the form.
+unfoldable pub broken_line : Reader → Option ℕ
+broken_line r = cond (r.broken || ((r.field.minus || r.field.digits) || ltb 0 r.count)) (Some r.line) None
 
 -- 2,048 empty cells.
 abbrev pub empty_cells : List ℤ
 empty_cells = replicate 6144 (pos 0)
 
+-- Before the first byte.
+abbrev pub unread : State
+unread = state opened empty_cells
+
 -- What is made of a whole text.
 unfoldable pub read_text : List ℕ → State
-read_text text = foldl step (state opened empty_cells) text
+read_text text = foldl step unread text
 
 -- A text in parts, and the parts read one after the other, each from where the last one left.
 unfoldable pub joined : List (List ℕ) → List ℕ

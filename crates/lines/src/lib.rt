@@ -9,7 +9,7 @@ ghost use Rattle.std.specs.Prelude.{◌≡◌, ◌<◌, length};
 ghost use Rattle.lines.specs.Reader.{opened, empty_cells, value_of, broken, with_field, letter, opening_byte, digit, comma, minus, within, broken_line};
 
 // The field that is being read: an optional minus and the digits so far.
-#[derive(Clone, Copy)]
+#[derive(Clone, Copy, Default)]
 pub struct Field {
     pub minus: bool,
     pub digits: bool,
@@ -17,7 +17,7 @@ pub struct Field {
 }
 
 // The last three whole fields of the line.
-#[derive(Clone, Copy)]
+#[derive(Clone, Copy, Default)]
 pub struct Fields {
     pub x: i64,
     pub y: i64,
@@ -25,7 +25,7 @@ pub struct Fields {
 }
 
 // What the first line says.
-#[derive(Clone, Copy)]
+#[derive(Clone, Copy, Default)]
 pub struct Start {
     pub pc: i64,
     pub sp: i64,
@@ -44,175 +44,148 @@ pub struct Reader {
     pub start: Start,
 }
 
-// Before the first byte. `opening` counts the bytes of `start,`, which stands for the first line's first field.
-pub fn open() -> Reader
-    ensures { result ≡ opened }
-{
-    Reader {
-        line: 1,
-        broken: false,
-        opening: 0,
-        count: 1,
-        last: Fields { x: 0, y: 0, z: 0 },
-        field: Field {
-            minus: false,
-            digits: false,
-            magnitude: 0,
-        },
-        start: Start {
-            pc: 0,
-            sp: 0,
-            sr: 0,
-        },
-    }
+// The reader, and the 2,048 cells that it wrote.
+#[derive(Drop)]
+pub struct State {
+    pub reader: Reader,
+    pub cells: [i64; 6144],
 }
 
-// The cells before the first byte. The length is what lending them as a slice needs.
+// The cells before the first byte.
 pub fn empty_cells() -> [i64; 6144]
-    ensures value { result ≡ empty_cells }
-    ensures value_2 { 6144 ≡ length result }
+    ensures { result ≡ empty_cells }
 {
     [0; 6144]
 }
 
-pub fn break_line(r: Reader) -> Reader
-    ensures { result ≡ broken r }
-{
-    let mut q = r;
-    q.broken = true;
-    q
-}
-
-pub fn with_field(r: Reader, f: Field) -> Reader
-    ensures { result ≡ with_field r f }
-{
-    let mut q = r;
-    q.field = f;
-    q
-}
-
-pub fn value_of(f: Field) -> i64
-    ensures { result ≡ value_of f.minus f.magnitude }
-{
-    decimal::value(f.minus, f.magnitude)
-}
-
 // The bytes of `start,`.
+#[tactic(auto, unfolding(crate::specs::Reader::letter))]
 pub fn letter_at(i: u32) -> u8
     ensures { result ≡ letter i }
 {
-    match i {
-        0 => 115,
-        1 => 116,
-        2 => 97,
-        3 => 114,
-        4 => 116,
-        _ => 44,
+    b"start,".get(i as usize).copied().unwrap_or(b',')
+}
+
+impl Field {
+    pub fn value(self) -> i64
+        ensures { result ≡ value_of self.minus self.magnitude }
+    {
+        decimal::value(self.minus, self.magnitude)
     }
 }
 
-pub fn take_opening(r: Reader, b: u8) -> Reader
-    requires { r.opening < 6 }
-    ensures { result ≡ opening_byte r b }
-{
-    if letter_at(r.opening) == b {
-        let mut q = r;
-        q.opening = r.opening + 1;
-        return q;
-    }
-    break_line(r)
-}
-
-pub fn take_digit(r: Reader, d: u8) -> Reader
-    requires { d < 10 }
-    ensures { result ≡ digit r d }
-{
-    let f = r.field;
-    let v = decimal::grown(f.magnitude, d);
-    if decimal::is_within(f.minus, v) {
-        let g = Field {
-            minus: f.minus,
-            digits: true,
-            magnitude: v,
-        };
-        return with_field(r, g);
-    }
-    break_line(r)
-}
-
-pub fn take_comma(r: Reader) -> Reader
-    ensures { result ≡ comma r }
-{
-    let f = r.field;
-    let l = r.last;
-    if f.digits & (r.count < 3) {
-        let mut q = r;
-        q.count = r.count + 1;
-        let w = value_of(f);
-        let next = Fields {
-            x: l.y,
-            y: l.z,
-            z: w,
-        };
-        q.last = next;
-        let g = Field {
-            minus: false,
-            digits: false,
-            magnitude: 0,
-        };
-        q.field = g;
-        return q;
-    }
-    break_line(r)
-}
-
-pub fn take_minus(r: Reader) -> Reader
-    ensures { result ≡ minus r }
-{
-    let f = r.field;
-    if f.minus | f.digits {
-        return break_line(r);
-    }
-    let g = Field {
-        minus: true,
-        digits: false,
-        magnitude: 0,
-    };
-    with_field(r, g)
-}
-
-// A byte that is no line end.
-pub fn take_within(r: Reader, b: u8) -> Reader
-    ensures { result ≡ within r b }
-{
-    if r.broken {
-        return r;
-    }
-    if r.opening < 6 {
-        return take_opening(r, b);
-    }
-    if b < 48 {
-        if b == 44 {
-            return take_comma(r);
+impl Reader {
+    // Before the first byte. `opening` counts the bytes of `start,`, which stands for the first line's first field.
+    pub fn new() -> Reader
+        ensures { result ≡ opened }
+    {
+        Reader {
+            line: 1,
+            broken: false,
+            opening: 0,
+            count: 1,
+            last: Fields::default(),
+            field: Field::default(),
+            start: Start::default(),
         }
-        if b == 45 {
-            return take_minus(r);
-        }
-        return break_line(r);
     }
-    if b < 58 {
-        return take_digit(r, b - 48);
-    }
-    break_line(r)
-}
 
-// At the end of the text: 0 where it is an image, else the number of the line that breaks the form.
-pub fn broken_line(r: Reader) -> u64
-    ensures { result ≡ broken_line r }
-{
-    let f = r.field;
-    if r.broken | ((f.minus | f.digits) | (0 < r.count)) {
-        return r.line;
+    pub fn break_line(&mut self)
+        ensures { self.new ≡ broken self.old }
+    {
+        self.broken = true;
     }
-    0
+
+    #[tactic(auto, unfolding(crate::specs::Reader::opening_byte))]
+    pub fn take_opening(&mut self, b: u8)
+        requires { self.old.opening < 6 }
+        ensures { self.new ≡ opening_byte self.old b }
+    {
+        if letter_at(self.opening) == b {
+            self.opening += 1;
+        } else {
+            self.break_line();
+        }
+    }
+
+    #[tactic(auto, unfolding(crate::specs::Reader::digit))]
+    pub fn take_digit(&mut self, d: u8)
+        requires { d < 10 }
+        ensures { self.new ≡ digit self.old d }
+    {
+        let minus = self.field.minus;
+        let magnitude = decimal::grown(self.field.magnitude, d);
+        if decimal::is_within(minus, magnitude) {
+            self.field = Field {
+                minus,
+                digits: true,
+                magnitude,
+            };
+        } else {
+            self.break_line();
+        }
+    }
+
+    #[tactic(auto, unfolding(crate::specs::Reader::comma))]
+    pub fn take_comma(&mut self)
+        ensures { self.new ≡ comma self.old }
+    {
+        if self.field.digits && self.count < 3 {
+            self.count += 1;
+            self.last = Fields {
+                x: self.last.y,
+                y: self.last.z,
+                z: self.field.value(),
+            };
+            self.field = Field::default();
+        } else {
+            self.break_line();
+        }
+    }
+
+    #[tactic(auto, unfolding(crate::specs::Reader::minus))]
+    pub fn take_minus(&mut self)
+        ensures { self.new ≡ minus self.old }
+    {
+        if self.field.minus || self.field.digits {
+            self.break_line();
+        } else {
+            self.field = Field {
+                minus: true,
+                ..Field::default()
+            };
+        }
+    }
+
+    // A byte that is no line end.
+    #[tactic(auto, unfolding(crate::specs::Reader::within, crate::specs::Reader::plain))]
+    pub fn take_within(&mut self, b: u8)
+        ensures { self.new ≡ within self.old b }
+    {
+        if self.broken {
+            return;
+        }
+        if self.opening < 6 {
+            return self.take_opening(b);
+        }
+        match b {
+            b',' => self.take_comma(),
+            b'-' => self.take_minus(),
+            b'0'..=b'9' => self.take_digit(b - b'0'),
+            _ => self.break_line(),
+        }
+    }
+
+    // At the end of the text: the number of the line that breaks the form, if one does.
+    #[tactic(auto, unfolding(crate::specs::Reader::broken_line))]
+    pub fn broken_line(&self) -> Option<u64>
+        ensures { result ≡ broken_line self.now }
+    {
+        let begun = self.field.minus || self.field.digits || 0 < self.count;
+        if self.broken || begun {
+            Some(self.line)
+        } else {
+            None
+        }
+    }
 }

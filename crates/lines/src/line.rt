@@ -1,98 +1,86 @@
 // The end of a line: the first gives pc, sp and sr, and each other one a cell.
-ghost use Rattle.std.specs.Prelude.{◌≡◌, length};
-ghost use Rattle.lines.specs.Reader.{following, next, started, state, start_line, line_cell, cell_line, line_end, step};
+ghost use Rattle.std.specs.Prelude.{◌≡◌};
+ghost use Rattle.lines.specs.Reader.{following, next, start_line, line_cell, cell_line, line_end};
 
-use super::{Field, Reader, Start, break_line, value_of};
+use super::{Field, Reader, Start, State};
 use definition::Cell;
 
+#[tactic(auto, unfolding(crate::specs::Reader::following))]
 pub fn following_line(n: u64) -> u64
     ensures { result ≡ following n }
 {
-    if n < 18446744073709551615 {
-        return n + 1;
+    n.saturating_add(1)
+}
+
+impl Reader {
+    // At the start of the next line.
+    #[tactic(auto, unfolding(crate::specs::Reader::next))]
+    pub fn next_line(&mut self)
+        ensures { self.new ≡ next self.old }
+    {
+        self.line = following_line(self.line);
+        self.count = 0;
+        self.field = Field::default();
     }
-    n
-}
 
-// At the start of the next line.
-pub fn next_line(r: Reader) -> Reader
-    ensures { result ≡ next r }
-{
-    let mut q = r;
-    q.line = following_line(r.line);
-    q.count = 0;
-    let g = Field {
-        minus: false,
-        digits: false,
-        magnitude: 0,
-    };
-    q.field = g;
-    q
-}
-
-// "pc and sp must be addresses"
-pub fn take_start(r: Reader) -> Reader
-    ensures { result ≡ start_line r }
-{
-    let f = r.field;
-    let l = r.last;
-    let pc = l.y;
-    let sp = l.z;
-    if word::is_address(pc) & word::is_address(sp) {
-        let sr = value_of(f);
-        let mut q = next_line(r);
-        let s = Start { pc, sp, sr };
-        q.start = s;
-        return q;
-    }
-    break_line(r)
-}
-
-pub fn line_cell(r: Reader) -> Cell
-    ensures { result ≡ line_cell r }
-{
-    let f = r.field;
-    let l = r.last;
-    Cell {
-        tag: l.y,
-        first: l.z,
-        second: value_of(f),
-    }
-}
-
-// "addresses below 2,048", "each cell sound", "a later line over an earlier one"
-pub fn take_cell(cells: &mut [i64], r: Reader) -> Reader
-    requires { length cells.old ≡ 6144 }
-    ensures { state result cells.new ≡ cell_line (state r cells.old) }
-{
-    let l = r.last;
-    let x = l.x;
-    let v = line_cell(r);
-    if checks::is_below(x, 2048) {
-        if encoding::is_sound(v) {
-            let n = word::magnitude(x);
-            memory::put_cell(cells, n as usize, v);
-            return next_line(r);
+    // "pc and sp must be addresses"
+    #[tactic(auto, unfolding(crate::specs::Reader::start_line))]
+    pub fn take_start(&mut self)
+        ensures { self.new ≡ start_line self.old }
+    {
+        let pc = self.last.y;
+        let sp = self.last.z;
+        if word::is_address(pc) && word::is_address(sp) {
+            let sr = self.field.value();
+            self.start = Start { pc, sp, sr };
+            self.next_line();
+        } else {
+            self.break_line();
         }
-        return break_line(r);
     }
-    break_line(r)
+
+    pub fn line_cell(&self) -> Cell
+        ensures { result ≡ line_cell self.now }
+    {
+        Cell {
+            tag: self.last.y,
+            first: self.last.z,
+            second: self.field.value(),
+        }
+    }
 }
 
-// "each with a line end"
-pub fn take_line_end(cells: &mut [i64], r: Reader) -> Reader
-    requires { length cells.old ≡ 6144 }
-    ensures { state result cells.new ≡ line_end (state r cells.old) }
-{
-    let f = r.field;
-    if r.broken {
-        return r;
-    }
-    if f.digits & (r.count == 3) {
-        if r.line == 1 {
-            return take_start(r);
+impl State {
+    // "addresses below 2,048", "each cell sound", "a later line over an earlier one"
+    #[tactic(auto, unfolding(crate::specs::Reader::cell_line))]
+    pub fn take_cell(&mut self)
+        ensures { self.new ≡ cell_line self.old }
+    {
+        let at = self.reader.last.x;
+        let v = self.reader.line_cell();
+        if checks::is_below(at, 2048) && encoding::is_sound(v) {
+            memory::put_cell(&mut self.cells, at as usize, v);
+            self.reader.next_line();
+        } else {
+            self.reader.break_line();
         }
-        return take_cell(cells, r);
     }
-    break_line(r)
+
+    // "each with a line end"
+    #[tactic(auto, unfolding(crate::specs::Reader::line_end))]
+    pub fn take_line_end(&mut self)
+        ensures { self.new ≡ line_end self.old }
+    {
+        if self.reader.broken {
+            return;
+        }
+        if !self.reader.field.digits || self.reader.count != 3 {
+            return self.reader.break_line();
+        }
+        if self.reader.line == 1 {
+            self.reader.take_start();
+        } else {
+            self.take_cell();
+        }
+    }
 }

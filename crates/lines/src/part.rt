@@ -1,32 +1,38 @@
 // A part of the text.
-ghost use Rattle.std.specs.Prelude.{◌≡◌, length};
+ghost use Rattle.std.specs.Prelude.{◌≡◌};
 ghost use mathlib.Core.List.{foldl};
-ghost use Rattle.lines.specs.Reader.{state, step};
+ghost use Rattle.lines.specs.Reader.{unread, step};
 
-use super::line::take_line_end;
-use super::{Reader, take_within};
+use super::{Reader, State, empty_cells};
 
-pub fn take_byte(cells: &mut [i64], r: Reader, b: u8) -> Reader
-    requires { length cells.old ≡ 6144 }
-    ensures { state result cells.new ≡ step (state r cells.old) b }
-{
-    if b == 10 {
-        return take_line_end(cells, r);
+impl State {
+    // Before the first byte.
+    pub fn new() -> State
+        ensures { result ≡ unread }
+    {
+        State {
+            reader: Reader::new(),
+            cells: empty_cells(),
+        }
     }
-    take_within(r, b)
-}
 
-// The reader and the cells after a part of the text.
-pub fn take_part(cells: &mut [i64], r: Reader, part: &[u8]) -> Reader
-    requires { length cells.old ≡ 6144 }
-    ensures { state result cells.new ≡ foldl step (state r cells.old) part.now }
-{
-    let mut q = r;
-    let mut i: usize = 0;
-    while i < part.len() {
-        let b = part[i];
-        q = take_byte(cells, q, b);
-        i += 1;
+    #[tactic(auto, unfolding(crate::specs::Reader::step))]
+    pub fn take_byte(&mut self, b: u8)
+        ensures { self.new ≡ step self.old b }
+    {
+        if b == b'\n' {
+            self.take_line_end();
+        } else {
+            self.reader.take_within(b);
+        }
     }
-    q
+
+    // The reader and the cells after a part of the text.
+    pub fn take_part(&mut self, part: &[u8])
+        ensures { self.new ≡ foldl step self.old part.now }
+    {
+        for b in part {
+            self.take_byte(*b);
+        }
+    }
 }

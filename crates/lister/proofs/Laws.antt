@@ -1,69 +1,93 @@
--- How the reads add up to a text, and what is printed of it. Assumes nothing.
-use mathlib.Core.Path.{◌≡◌, sym, ap, ◌∙◌}
-use mathlib.Core.Bool.{true, false, false≢true}
-use mathlib.Core.List.{List, ◌++◌, foldl, foldl-append}
-use Prim.Native.Nat.{ℕ, ◌+◌, ◌*◌, ◌<◌, ◌≤◌}
-use native.Mathlib.Omega.{arith}
-use native.Mathlib.Numerals.{add-one}
-use lib.IntN.{ℤ}
-use lib.ListN.{length, take, drop, get_or, length-append, length-replicate}
-use lib.Seq.{drop-cons, drop-length, take_all, take-append_seam}
-use borrow.Author.Tests.{ne_eqb, eqb-false, lt-ltb}
+-- How the reads add up to a text. Assumes nothing.
+use Rattle.std.proofs.Common.{◌≡◌, refl, sym, ap, ◌∙◌, true, false, ℕ, ◌+◌, ◌-◌, ◌^◌, ◌<◌, ◌≤◌, List, [], ◌∷◌, ◌++◌, arith, length, take, drop, length-append, length-take, ◌*◌, ℤ, min, leb, leb-true, leb-false, Option, Some, None, eqb}
+use mathlib.Core.List.{foldl, foldl-append}
+use Rattle.std.specs.Io.KnownBytes.{Consumes, IsAtEnd}
+use Rattle.std.proofs.KnownBytes.{Consumes-nil, Consumes-trans, Consumes-whole}
+use Rattle.expression.proofs.Spans.{by_bool}
+use Rattle.lines.specs.declared.Reader.{Reader}
+use Rattle.lines.proofs.Exact.{dead-stays}
+use Rattle.lister.specs.declared.seen.Seen.{Seen}
+use Rattle.lister.specs.Output.{names_cell, named_after, seen_step, unseen, seen_text, loss_name, leave_of, room, listing_text, output_of, output, SeesInput, ListsInput}
 use Rattle.definition.specs.declared.Counted.{Counted}
 use Rattle.definition.specs.Calls.{Called, called, passes}
-use Rattle.expression.specs.Reader.{same}
-use Rattle.expression.proofs.Spans.{by_bool}
 use Rattle.assembly.specs.Assemble.{counted}
-use Rattle.assembly.proofs.Names.{same_true}
-use Rattle.lines.specs.Reader.{State, state, step, opened, empty_cells, broken_line}
 use Rattle.listing.specs.Call.{image_text, list_check, in_front, list_call}
 use Rattle.report.specs.Text.{refusal_text}
-use Rattle.lister.specs.Output.{Seen, seen, named_after, seen_step, seen_text, loss_name, leave_of, room, listing_text, output_of, output, PartRead, TextRead, Printed}
+use Rattle.std.proofs.lemmas.Bool.{eqb-false}
+use Rattle.std.proofs.Math.Seq.{take_all, take-append_seam}
+use Rattle.expression.specs.Reader.{same}
+use Rattle.assembly.proofs.Names.{same_true}
 
--- ---- what is read
+-- What was seen of a text that so many reads gave.
+pub record SeesSoFar (before after : Option (List ℕ)) (reads : ℕ) (u : Seen) : Type 0 where
+  pub text : List ℕ
+  pub taken : u ≡ seen_text text
+  pub consumed : Consumes before after text
+  pub long : reads ≤ length text
 
--- one byte
-pub stepped : (s : State) {t : State} (b n : ℕ) {m : ℕ} → t ≡ step s b → m ≡ named_after b t.reader n → seen t m ≡ seen_step (seen s n) b
+-- a broken reader is left as it is
+named-stays : (b : ℕ) (q : Reader) (n : ℕ) → q.broken ≡ true → named_after b q n ≡ n
+unfolding named_after names_cell
+named-stays b q n h = by_bool (eqb b 10) (λ e. rw (e, h)) (λ e. rw e)
+
+broken-stays : (u : Seen) (b : ℕ) → u.state.reader.broken ≡ true → seen_step u b ≡ u
 unfolding seen_step
-stepped s b n e f = rw (f, e)
+broken-stays u b h = rw (dead-stays u.state b h, named-stays b u.state.reader u.named h)
 
-pub seen_more : (t : List ℕ) (i : ℕ) (u : Seen) {v : Seen} → i < length t → v ≡ seen_step u (get_or t i 0) → foldl seen_step v (drop (i + 1) t) ≡ foldl seen_step u (drop i t)
-seen_more t i u h e = rw (add-one, drop-cons t i 0 h, e)
+broken-all : (t : List ℕ) (u : Seen) → u.state.reader.broken ≡ true → foldl seen_step u t ≡ u
+broken-all [] u h = refl
+broken-all (b ∷ t) u h = ap (λ (v : Seen). foldl seen_step v t) (broken-stays u b h) ∙ broken-all t u h
 
-pub seen_end : (t : List ℕ) (i : ℕ) (u : Seen) → i ≡ length t → u ≡ foldl seen_step u (drop i t)
-seen_end t i u e = rw (e, drop-length)
-
--- a read that gave something
-pub some_read : (before after : Seen) (n : ℕ) (buf : List ℕ) → 0 < n → n ≡ length (take n buf) → after ≡ foldl seen_step before (take n buf) → PartRead before after after.state.reader.broken false
-some_read before after n buf h k e =
-    record { part = take n buf; taken = e; last = rw (ne_eqb (length (take n buf)) 0 (λ z. omega arith)); unread = λ f. absurd (false≢true f) }
+-- before the first read
+pub none_read : (k : Option (List ℕ)) → SeesSoFar k k 0 unseen
+unfolding seen_text
+none_read k = record { text = []; taken = refl; consumed = Consumes-nil k; long = omega arith }
 
 -- one read more
-pub and-read : {s t u : Seen} (a : TextRead s t) {ended failed : _} (b : PartRead t u ended failed) → TextRead s u
-and-read {s} a b =
-    record { text = a.text ++ b.part; taken = b.taken ∙ ap (λ (x : Seen). foldl seen_step x b.part) a.taken ∙ sym (foldl-append seen_step s a.text b.part) }
+pub read_more : (k l m : Option (List ℕ)) (i n : ℕ) (u v : Seen) (buf : List ℕ) → SeesSoFar k l i u → n ≤ length buf → (n ≡ 0 → ⊥) → Consumes l m (take n buf) → v ≡ foldl seen_step u (take n buf) → SeesSoFar k m (i + 1) v
+unfolding seen_text
+read_more k l m i n u v buf a h z p e =
+    let w : length (take n buf) ≡ n = simp length-take (omega arith) in
+    record { text = a.text ++ take n buf; taken = e ∙ ap (λ (x : Seen). foldl seen_step x (take n buf)) a.taken ∙ sym (foldl-append seen_step unseen a.text (take n buf)); consumed = Consumes-trans k l m _ _ a.consumed p; long = simp length-append (omega (arith, a.long)) }
 
--- ---- what is printed
+-- nothing is left; a line is broken; the reads are used up
+pub all_read : (k l : Option (List ℕ)) (i : ℕ) (u : Seen) → SeesSoFar k l i u → IsAtEnd l → SeesInput k u
+all_read k l i u a e =
+    record { text = a.text; taken = a.taken; whole = Consumes-whole k l a.text (λ input. length input < 2 ^ 64 - 1 → u ≡ seen_text input) a.consumed e (λ _. a.taken) }
 
-pub leave-one : (word : List ℕ) → loss_name ≡ word → 1 ≡ leave_of word
+rest-broken : (u : Seen) (s t : List ℕ) → u ≡ seen_text s → u.state.reader.broken ≡ true → u ≡ seen_text (s ++ t)
+unfolding seen_text
+rest-broken u s t e h = sym (foldl-append seen_step unseen s t ∙ ap (λ (x : Seen). foldl seen_step x t) (sym e) ∙ broken-all t u h)
+
+pub broken_read : (k l : Option (List ℕ)) (i : ℕ) (u : Seen) → SeesSoFar k l i u → u.state.reader.broken ≡ true → SeesInput k u
+broken_read None l i u a b = record { text = a.text; taken = a.taken; whole = tt }
+broken_read (Some xs) None i u a b = absurd a.consumed
+broken_read (Some xs) (Some ys) i u a b = record { text = a.text; taken = a.taken; whole = λ _. rest-broken u a.text ys a.taken b ∙ ap seen_text (sym a.consumed) }
+
+pub reads_used : (k l : Option (List ℕ)) (i : ℕ) (u : Seen) → SeesSoFar k l i u → 2 ^ 64 - 1 ≤ i → SeesInput k u
+reads_used None l i u a h = record { text = a.text; taken = a.taken; whole = tt }
+reads_used (Some xs) None i u a h = absurd a.consumed
+reads_used (Some xs) (Some ys) i u a h = record { text = a.text; taken = a.taken; whole = λ f. absurd (omega (arith, a.long, simp length-append at (ap length a.consumed))) }
+
+-- ---- the argument
+
+pub leave-one : (word : List ℕ) → word ≡ loss_name → 1 ≡ leave_of word
 unfolding leave_of same
-leave-one word e = rw (← e)
+leave-one word e = rw e
 
-pub leave_none : (word : List ℕ) → (loss_name ≡ word → ⊥) → 0 ≡ leave_of word
+pub leave_none : (word : List ℕ) → (word ≡ loss_name → ⊥) → 0 ≡ leave_of word
 unfolding leave_of
 leave_none word n =
     by_bool (same loss_name word)
-    (λ e. absurd (n (same_true loss_name word e)))
+    (λ e. absurd (n (sym (same_true loss_name word e))))
     (λ e. rw e)
 
-module _ (leave : ℕ) (image : List ℤ) (out left : List ℕ) (r : Counted) (e : called r left ≡ list_call leave image out) (long : length out ≡ 163840) where
-  check-same : list_check leave image out ≡ list_check leave image room
-  unfolding list_check
-  check-same = rw (long ∙ sym (length-replicate {A = ℕ} 163840 0))
+-- ---- what is printed
 
+module _ (leave : ℕ) (image : List ℤ) (left : List ℕ) (r : Counted) (e : called r left ≡ list_call leave image room) where
   record Listed : Type 0 where
     answer : r ≡ counted 0 0 (length (image_text image))
-    text : left ≡ in_front (image_text image) out
+    text : left ≡ in_front (image_text image) room
     shown : image_text image ≡ listing_text leave image
 
   record Unlisted : Type 0 where
@@ -73,14 +97,14 @@ module _ (leave : ℕ) (image : List ℤ) (out left : List ℕ) (r : Counted) (e
   listed : passes (list_check leave image room) ≡ true → Listed
   unfolding list_call listing_text
   listed p =
-      let c : called r left ≡ called (counted 0 0 (length (image_text image))) (in_front (image_text image) out) = e ∙ rw (check-same, p) in
+      let c : called r left ≡ called (counted 0 0 (length (image_text image))) (in_front (image_text image) room) = e ∙ rw p in
       record { answer = ap (λ (x : Called Counted (List ℕ)). x.answer) c; text = ap (λ (x : Called Counted (List ℕ)). x.left) c; shown = rw p }
 
   unlisted : passes (list_check leave image room) ≡ false → Unlisted
   unfolding list_call listing_text
   unlisted p =
       let d = list_check leave image room in
-      let c : called r left ≡ called (counted d.refusal d.place 0) out = e ∙ rw (check-same, p) in
+      let c : called r left ≡ called (counted d.refusal d.place 0) room = e ∙ rw p in
       let a = ap (λ (x : Called Counted (List ℕ)). x.answer) c in
       record { refused = λ z. eqb-false d.refusal 0 p (sym (ap (λ (x : Counted). x.refusal) a) ∙ z); shown = rw (p, a) }
 
@@ -90,7 +114,7 @@ module _ (leave : ℕ) (image : List ℤ) (out left : List ℕ) (r : Counted) (e
       (λ p. let l = listed p in
       let t = image_text image in
       let n = ap (λ (x : Counted). x.count) l.answer in
-      (ap (λ (k : ℕ). take k left) n ∙ ap (take (length t)) l.text ∙ take-append_seam t (drop (length t) out) ∙ l.shown, omega (arith, n, simp length-append at (ap length l.text))))
+      (ap (λ (k : ℕ). take k left) n ∙ ap (take (length t)) l.text ∙ take-append_seam t (drop (length t) room) ∙ l.shown, omega (arith, n, simp length-append at (ap length l.text))))
       (λ p. absurd ((unlisted p).refused z))
 
   pub refusal-put : (r.refusal ≡ 0 → ⊥) → refusal_text r.refusal r.place ≡ listing_text leave image
@@ -99,20 +123,19 @@ module _ (leave : ℕ) (image : List ℤ) (out left : List ℕ) (r : Counted) (e
       (λ p. absurd (n (ap (λ (x : Counted). x.refusal) (listed p).answer)))
       (λ p. (unlisted p).shown)
 
-module _ (leave : ℕ) (s : State) (n : ℕ) where
-  pub broken-put : (k : ℕ) → k ≡ broken_line s.reader → 0 < k → refusal_text 12 k ≡ output_of leave (seen s n)
-  unfolding output_of
-  broken-put k e h = rw (← e, lt-ltb 0 k h)
+-- no more cells are there than 2,048
+pub all_named : (n : ℕ) (cells : List ℤ) → length cells ≡ 6144 → take (3 * min n 2048) cells ≡ take (3 * n) cells
+all_named n cells l =
+    by_bool (leb n 2048)
+    (λ e. let h = leb-true n 2048 e in let m : min n 2048 ≡ n = omega arith in rw m)
+    (λ e. let h = leb-false n 2048 e in let m : min n 2048 ≡ 2048 = omega arith in rw m (take_all 6144 cells (omega arith) ∙ sym (take_all (3 * n) cells (omega arith))))
 
-  pub whole-put : broken_line s.reader ≡ 0 → listing_text leave (take (3 * n) s.cells) ≡ output_of leave (seen s n)
-  unfolding output_of
-  whole-put e = rw e
+-- what is printed of what was seen
+module _ {u : Seen} {leave : ℕ} (word printed : List ℕ) (l : leave ≡ leave_of word) (p : printed ≡ output_of leave u) where
+  shown : (t : List ℕ) → u ≡ seen_text t → printed ≡ output word t
+  unfolding output
+  shown t e = p ∙ ap (λ (k : ℕ). output_of k u) l ∙ ap (output_of (leave_of word)) e
 
-  pub all-put : broken_line s.reader ≡ 0 → 2048 ≤ n → length s.cells ≡ 6144 → listing_text leave s.cells ≡ output_of leave (seen s n)
-  all-put e h l = ap (listing_text leave) (sym (take_all (3 * n) s.cells (omega arith))) ∙ whole-put e
-
--- what is put of a text that was read from empty cells on
-pub printed : {s : Seen} {l : List ℤ} (word : List ℕ) (leave n : ℕ) (out : List ℕ) → TextRead (seen (state opened l) 0) s → l ≡ empty_cells → leave ≡ leave_of word → take n out ≡ output_of leave s → Printed word false n out
-unfolding output seen_text
-printed {s} word leave n out t z f p =
-    record { text = t.text; put = p ∙ ap (λ (k : ℕ). output_of k s) f ∙ ap (output_of (leave_of word)) (t.taken ∙ ap (λ (l : List ℤ). foldl seen_step (seen (state opened l) 0) t.text) z) }
+  pub lists : (known : Option (List ℕ)) → SeesInput known u → ListsInput known word printed
+  lists None s = record { text = s.text; put = shown s.text s.taken; whole = tt }
+  lists (Some xs) s = record { text = s.text; put = shown s.text s.taken; whole = λ h. shown xs (s.whole h) }

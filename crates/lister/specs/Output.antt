@@ -1,21 +1,20 @@
 -- What the listings tool prints (Card 7): "The listings tool reads old files for good, with the limits they had, and prints cells 0 to the highest named as Card 3's
 -- text, gaps as empty cells, with leave only if its argument is `loss`; it prints refusals likewise, 16 with line 0."
-use Rattle.std.specs.Prelude.{◌≡◌, Bool, true, cond, not, ◌&&◌, ◌||◌, ℕ, ◌*◌, ℤ, nat_abs, ltb, eqb, length, take, replicate}
+use Rattle.std.specs.Prelude.{◌≡◌, Bool, cond, not, ◌&&◌, ℕ, ◌*◌, ◌-◌, ◌^◌, ◌<◌, ℤ, nat_abs, ltb, eqb, length, take, replicate, Option, IfSome}
+use Rattle.std.specs.Option.{option_map_or}
 use mathlib.Core.List.{List, [], ◌∷◌, foldl}
 use Rattle.definition.specs.Calls.{passes}
 use Rattle.expression.specs.Reader.{same}
 use Rattle.lines.specs.declared.Reader.{Reader}
-use Rattle.lines.specs.Reader.{State, state, step, opened, empty_cells, following, broken_line}
+use Rattle.lines.specs.declared.State.{State}
+use Rattle.lines.specs.Reader.{state, step, opened, empty_cells, following, broken_line}
 use Rattle.listing.specs.Call.{image_text, list_check}
 use Rattle.report.specs.Text.{refusal_text}
+use Rattle.lister.specs.declared.seen.Seen.{Seen}
 
 -- ---- an old file, read
 
 -- The reader and its cells, and how many cells "0 to the highest named" are.
-pub record Seen : Type 0 where
-  pub state : State
-  pub named : ℕ
-
 abbrev pub seen : State → ℕ → Seen
 seen s n = record { state = s; named = n }
 
@@ -64,29 +63,22 @@ abbrev pub image_of : Seen → List ℤ
 image_of u = take (3 * u.named) u.state.cells
 
 unfoldable pub output_of : ℕ → Seen → List ℕ
-output_of leave u =
-    let n = broken_line u.state.reader in
-    cond (ltb 0 n) (refusal_text 12 n) (listing_text leave (image_of u))
+output_of leave u = option_map_or (refusal_text 12) (broken_line u.state.reader) (listing_text leave (image_of u))
 
 -- What is printed of a file, with this argument.
 unfoldable pub output : List ℕ → List ℕ → List ℕ
 output word text = output_of (leave_of word) (seen_text text)
 
--- ---- what is read, and what is made of it. Which bytes the input has no contract says, so each of these speaks of some text.
+-- ---- what is read, and what is made of it, as far as it is known which bytes the input has left: the system does not say, a reader over memory does
 
--- One read: what it gave is taken. It is the last where it gave nothing or a line is broken.
-pub record PartRead (before after : Seen) (ended failed : Bool) : Type 0 where
-  pub part : List ℕ
-  pub taken : after ≡ foldl seen_step before part
-  pub last : ended ≡ (eqb (length part) 0 || after.state.reader.broken)
-  pub unread : failed ≡ true → part ≡ []
-
--- All reads: reader, cells and count are the fold over what they gave.
-pub record TextRead (before after : Seen) : Type 0 where
+-- What was seen is the fold over what was read; where the input's bytes are known, over all of them, unless there are so many that the reads run out.
+pub record SeesInput (known : Option (List ℕ)) (u : Seen) : Type 0 where
   pub text : List ℕ
-  pub taken : after ≡ foldl seen_step before text
+  pub taken : u ≡ seen_text text
+  pub whole : IfSome known (λ input. length input < 2 ^ 64 - 1 → u ≡ seen_text input)
 
--- The first n bytes of out are what the definition prints of the text that was read.
-pub record Printed (word : List ℕ) (failed : Bool) (n : ℕ) (out : List ℕ) : Type 0 where
+-- What is printed is what the definition prints of the text that was read.
+pub record ListsInput (known : Option (List ℕ)) (word printed : List ℕ) : Type 0 where
   pub text : List ℕ
-  pub put : take n out ≡ cond failed [] (output word text)
+  pub put : printed ≡ output word text
+  pub whole : IfSome known (λ input. length input < 2 ^ 64 - 1 → printed ≡ output word input)

@@ -1,23 +1,28 @@
 -- An image gone through cell by cell. Assumes nothing.
 use mathlib.Core.Path.{◌≡◌, refl, sym, ap, ◌∙◌}
-use mathlib.Core.Bool.{true, false}
-use mathlib.Core.List.{List, [], ◌∷◌, ◌++◌, append-nil}
-use Prim.Native.Nat.{ℕ, zero, suc, ◌+◌, ◌*◌, ◌/◌, ◌≤◌, ◌<◌}
+use mathlib.Core.Bool.{true, false, ◌||◌}
+use mathlib.Core.List.{List, [], ◌∷◌, ◌++◌}
+use Prim.Native.Nat.{ℕ, zero, suc, ◌+◌, ◌-◌, ◌*◌, ◌/◌, ◌%◌, ◌≤◌, ◌<◌}
 use native.Mathlib.Omega.{arith}
 use native.Mathlib.Numerals.{add-one}
 use lib.IntN.{ℤ, pos}
-use lib.ListN.{length, get_or, take, drop, length-append, take-append-drop, drop_of_length-le}
-use borrow.Author.Tests.{le-leb, lt-leb}
+use lib.ListN.{length, take, drop, length-append, drop_of_length-le}
+use lib.Dec.{eqb}
+use borrow.Author.Tests.{eqb-true}
 use Rattle.definition.specs.Word.{eq_z}
 use Rattle.definition.specs.Memory.{cell_count, cell_at}
 use Rattle.definition.specs.Encoding.{sound}
 use Rattle.definition.specs.Calls.{lowest_damaged}
 use Rattle.encoding.proofs.Sound.{damaged-later, damaged-here}
-use Rattle.printing.proofs.Laws.{put_next, kept_then}
+use Rattle.std.proofs.lemmas.Grind.{common_steps}
+use borrow.Rule.Slice.PartMut.{put_mid}
+use Rattle.std.proofs.lemmas.Slice.{take-put_mid, drop-put_mid}
+use lib.Seq.{drop-drop}
+use Rattle.printing.proofs.Laws.{put_next}
 use Rattle.expression.proofs.Spans.{by_bool}
+use Rattle.expression.proofs.Sound.{both}
 use Rattle.listing.specs.Listing.{line_text, listing, image_cells, any_empty}
-use Rattle.listing.specs.Call.{image_text, in_front}
-use Rattle.listing.specs.Pieces.{fitted}
+use Rattle.listing.specs.Call.{image_text, is_image}
 use Rattle.listing.proofs.RoundTrip.{count-cells}
 
 cells-next : (l : List ℤ) (n : ℕ) → 3 * n + 2 < length l → drop n (image_cells l) ≡ cell_at l n ∷ drop (suc n) (image_cells l)
@@ -35,89 +40,73 @@ cells-next (t ∷ f ∷ s ∷ l) (suc n) h =
 cells-done : (l : List ℤ) (n : ℕ) → length l / 3 ≤ n → drop n (image_cells l) ≡ []
 cells-done l n h = let c = count-cells l in drop_of_length-le (image_cells l) {i = n} (omega arith)
 
--- ---- damage
+-- ---- no cell is damaged
 
--- none of the cells from n on is damaged
-pub Undamaged : List ℤ → ℕ → Type 0
+Undamaged : List ℤ → ℕ → Type 0
 Undamaged l n = lowest_damaged n (drop (3 * n) l) ≡ cell_count l
 
-pub undamaged-first : (l : List ℤ) → lowest_damaged 0 l ≡ cell_count l → Undamaged l 0
-unfolding Undamaged
-undamaged-first l h = h
-
-pub sound-here : (l : List ℤ) (n : ℕ) → n < length l / 3 → Undamaged l n → sound (cell_at l n) ≡ true
+sound-here : (l : List ℤ) (n : ℕ) → n < length l / 3 → Undamaged l n → sound (cell_at l n) ≡ true
 unfolding Undamaged
 sound-here l n h u = by_bool (sound (cell_at l n)) (λ e. e) (λ e. let z = damaged-here n l (omega arith) e ∙ u in absurd (omega arith))
 
-pub undamaged-next : (l : List ℤ) (n : ℕ) → n < length l / 3 → Undamaged l n → Undamaged l (n + 1)
+undamaged : (l : List ℤ) → lowest_damaged 0 l ≡ cell_count l → (n : ℕ) → n ≤ length l / 3 → Undamaged l n
 unfolding Undamaged
-undamaged-next l n h u = rw add-one (damaged-later n l (omega arith) (sound-here l n h u) ∙ u)
+undamaged l e zero h = e
+undamaged l e (suc n) h = let u = undamaged l e n (omega arith) in damaged-later n l (omega arith) (sound-here l n (omega arith) u) ∙ u
+
+pub sound_cell : (l : List ℤ) (n : ℕ) → lowest_damaged 0 l ≡ cell_count l → n < length l / 3 → sound (cell_at l n) ≡ true
+sound_cell l n e h = sound-here l n h (undamaged l e n (omega arith))
+
+pub image_undamaged : (l : List ℤ) → is_image l ≡ true → lowest_damaged 0 l ≡ cell_count l
+unfolding is_image
+image_undamaged l h = eqb-true _ _ (both (eqb (length l % 3) 0) (eqb (lowest_damaged 0 l) (cell_count l)) h).1
 
 -- ---- empty cells
 
-pub empty-here : (l : List ℤ) (n : ℕ) → n < length l / 3 → eq_z (get_or l (3 * n) (pos 0)) (pos 0) ≡ true → true ≡ any_empty (drop n (image_cells l))
-unfolding any_empty cell_at
-empty-here l n h e = rw (cells-next l n (omega arith), e) refl
-
-pub empty-next : (l : List ℤ) (n : ℕ) → n < length l / 3 → eq_z (get_or l (3 * n) (pos 0)) (pos 0) ≡ false → any_empty (drop (n + 1) (image_cells l)) ≡ any_empty (drop n (image_cells l))
-unfolding any_empty cell_at
-empty-next l n h e = rw (add-one, cells-next l n (omega arith), e) refl
-
-pub empty-none : (l : List ℤ) (n : ℕ) → length l / 3 ≤ n → false ≡ any_empty (drop n (image_cells l))
+pub empty_here : (l : List ℤ) (n : ℕ) → n < length l / 3 → any_empty (drop n (image_cells l)) ≡ (eq_z (cell_at l n).tag (pos 0) || any_empty (drop (n + 1) (image_cells l)))
 unfolding any_empty
-empty-none l n h = rw (cells-done l n h) refl
+empty_here l n h = rw (add-one, cells-next l n (omega arith)) refl
+
+pub empty_none : (l : List ℤ) (n : ℕ) → length l / 3 ≤ n → any_empty (drop n (image_cells l)) ≡ false
+unfolding any_empty
+empty_none l n h = rw (cells-done l n h) refl
 
 -- ---- the lines from cell n on
 
 abbrev pub lines_from : List ℤ → ℕ → List ℕ
 lines_from l n = listing (drop n (image_cells l))
 
+pub lines_whole : (l : List ℤ) → lines_from l 0 ≡ image_text l
+unfolding image_text
+lines_whole l = refl
+
 pub lines_next : (l : List ℤ) (n : ℕ) → n < length l / 3 → lines_from l n ≡ line_text (cell_at l n) ++ lines_from l (n + 1)
 unfolding listing
 lines_next l n h = rw (add-one, cells-next l n (omega arith)) refl
-
-pub lines-length : (l : List ℤ) (n : ℕ) → n < length l / 3 → length (lines_from l n) ≡ length (line_text (cell_at l n)) + length (lines_from l (n + 1))
-lines-length l n h = ap length (lines_next l n h) ∙ length-append (line_text (cell_at l n)) (lines_from l (n + 1))
 
 pub lines_end : (l : List ℤ) (n : ℕ) → length l / 3 ≤ n → lines_from l n ≡ []
 unfolding listing
 lines_end l n h = rw (cells-done l n h) refl
 
-pub fits : (n room : ℕ) → n ≤ room → record { fits = true; bytes = n } ≡ fitted n room
-unfolding fitted
-fits n room h = rw (le-leb n room h) refl
-
-pub fits_not : (n room : ℕ) → room < n → record { fits = false; bytes = 0 } ≡ fitted n room
-unfolding fitted
-fits_not n room h = rw (lt-leb n room h) refl
-
-pub text-whole : (l : List ℤ) → 0 + length (lines_from l 0) ≡ length (image_text l)
-unfolding image_text
-text-whole l = omega arith
-
 -- ---- the lines written: those of the cells before n stand in the first bytes, and what is behind is kept
 
-pub record Writing (l : List ℤ) (before text : List ℕ) (n at : ℕ) : Type 0 where
-  pub same : length text ≡ length before
-  pub front : take at text ++ lines_from l n ≡ image_text l
-  pub behind : drop at text ≡ drop at before
-  pub count : at + length (lines_from l n) ≡ length (image_text l)
+abbrev pub Written : List ℤ → List ℕ → List ℕ → ℕ → ℕ → Type 0
+Written l before text n at =
+    (take at text ++ lines_from l n ≡ image_text l) × (drop at text ≡ drop at before) × (at + length (lines_from l n) ≡ length (image_text l))
 
-pub writing-first : (l : List ℤ) (text : List ℕ) → Writing l text text 0 0
-unfolding image_text
-writing-first l text = record { same = refl; front = refl; behind = refl; count = omega arith }
+pub written-next : (l : List ℤ) (before text line : List ℕ) (n at : ℕ) → n < length l / 3 → length (image_text l) ≤ length text → line ≡ line_text (cell_at l n) → Written l before text n at
+    → Written l before (put_mid at (at + length line - at) text line) (n + 1) (at + length line)
+written-next l before text line n at h room is w =
+    let e : lines_from l n ≡ line ++ lines_from l (n + 1) = rw is (lines_next l n h) in
+    let m = ap length e ∙ length-append line (lines_from l (n + 1)) in (
+      put_next (take at text) line (lines_from l (n + 1)) (take-put_mid at _ text line _ refl (omega arith)) e w.0,
+      drop-put_mid at _ text line _ (omega arith) (omega arith) (omega arith)
+          ∙ sym (drop-drop (length line) at text)
+          ∙ ap (λ (t : List ℕ). drop (length line) t) w.1
+          ∙ drop-drop (length line) at before,
+      omega (arith, w.2),
+    )
 
-pub writing-next : (l : List ℤ) (before text : List ℕ) (n at : ℕ) → n < length l / 3 → Writing l before text n at → (after : List ℕ) (r : ℕ) → take r after ≡ take at text ++ line_text (cell_at l n) → r ≡ at + length (line_text (cell_at l n)) → drop r after ≡ drop r text → length after ≡ length text → Writing l before after (n + 1) r
-writing-next l before text n at h w after r p q d s =
-    let e = lines-length l n h in
-    let c = w.count in
-    record { same = s ∙ w.same; front = put_next (take at text) (line_text (cell_at l n)) (lines_from l (n + 1)) p (lines_next l n h) w.front; behind = kept_then before text after at r (omega arith) w.behind d; count = omega arith }
+pub ruleset steps = (common_steps, sound_cell, empty_here, empty_none, lines_whole, lines_next, lines_end)
 
-pub written : (l : List ℤ) (before text : List ℕ) (n at : ℕ) → length l / 3 ≤ n → Writing l before text n at → text ≡ in_front (image_text l) before
-written l before text n at h w =
-    let e = lines_end l n h in
-    let f = ap length e in
-    let c = w.count in
-    let k : at ≡ length (image_text l) = omega arith in
-    let t : take at text ≡ image_text l = sym (append-nil (take at text)) ∙ ap (λ (x : List ℕ). take at text ++ x) (sym e) ∙ w.front in
-    sym (take-append-drop at text) ∙ ap (λ (x : List ℕ). x ++ drop at text) t ∙ ap (λ (x : List ℕ). image_text l ++ x) (w.behind ∙ ap (λ (j : ℕ). drop j before) k)
+pub ruleset answers = (common_steps, image_undamaged)

@@ -3,4 +3,3 @@ pub mod RoundTrip
 pub mod Cases
 pub mod Pieces
 pub mod Cells
-pub mod Answered

@@ -1,20 +1,48 @@
--- Names as the numbers that the code holds: five bits a letter, the first letter lowest.
-use Rattle.std.specs.Prelude.{cond, List, [], ◌∷◌, ℕ, zero, suc, ◌+◌, ◌/◌, ◌%◌, eqb}
+-- The names of operations and of registers. That they are the grammar's, at their numbers, is shown in proofs/Pieces.
+use Rattle.std.specs.Prelude.{List, ℕ, codes}
+use Rattle.definition.specs.declared.Op.{Op}
+use Rattle.definition.specs.declared.Op.TheVariants as O
+use Rattle.definition.specs.declared.Reg.{Reg}
+use Rattle.definition.specs.declared.Reg.TheVariants.{A, B, PC, SP, SR}
 
--- The letters of a number, at most k.
-unfoldable pub spelled : ℕ → ℕ → List ℕ
-spelled zero n = []
-spelled (suc k) n = cond (eqb n 0) [] ((96 + n % 32) ∷ spelled k (n / 32))
+abbrev pub mnemonic : Op → List ℕ
+mnemonic O.Add = codes "add"
+mnemonic O.And = codes "and"
+mnemonic O.Call = codes "call"
+mnemonic O.Cmp = codes "cmp"
+mnemonic O.Div = codes "div"
+mnemonic O.Fas = codes "fas"
+mnemonic O.In = codes "in"
+mnemonic O.Jmp = codes "jmp"
+mnemonic O.Jeq = codes "jeq"
+mnemonic O.Jne = codes "jne"
+mnemonic O.Jle = codes "jle"
+mnemonic O.Jlt = codes "jlt"
+mnemonic O.Jge = codes "jge"
+mnemonic O.Jgt = codes "jgt"
+mnemonic O.Ld = codes "ld"
+mnemonic O.Mul = codes "mul"
+mnemonic O.Neg = codes "neg"
+mnemonic O.Nop = codes "nop"
+mnemonic O.Not = codes "not"
+mnemonic O.Or = codes "or"
+mnemonic O.Out = codes "out"
+mnemonic O.Pop = codes "pop"
+mnemonic O.Push = codes "push"
+mnemonic O.Reset = codes "reset"
+mnemonic O.Rti = codes "rti"
+mnemonic O.Rtn = codes "rtn"
+mnemonic O.Shl = codes "shl"
+mnemonic O.Shr = codes "shr"
+mnemonic O.St = codes "st"
+mnemonic O.Sub = codes "sub"
+mnemonic O.Swap = codes "swap"
+mnemonic O.Trap = codes "trap"
+mnemonic O.Xor = codes "xor"
 
--- The mnemonics, in the order of `Instruction`.
-abbrev pub mnemonic_numbers : List ℕ
-mnemonic_numbers =
-    4225 ∷ 4545 ∷ 405539 ∷ 16803 ∷ 22820 ∷ 19494 ∷ 457 ∷ 16810 ∷ 17578 ∷ 5578 ∷ 5514 ∷ 20874 ∷ 5354 ∷ 20714 ∷ 140 ∷ 12973 ∷ 7342 ∷ 16878 ∷ 20974 ∷ 591 ∷ 21167 ∷ 16880 ∷ 282288 ∷ 21154994 ∷ 9874 ∷ 14994 ∷ 12563 ∷ 18707 ∷ 659 ∷ 2739 ∷ 526067 ∷ 525908 ∷ 18936 ∷ []
-
--- a, b, pc, sp and sr
-abbrev pub register_numbers : List ℕ
-register_numbers = 1 ∷ 2 ∷ 112 ∷ 531 ∷ 595 ∷ []
-
--- The letters of a name's number.
-abbrev pub spelling : ℕ → List ℕ
-spelling n = spelled 5 n
+abbrev pub register : Reg → List ℕ
+register A = codes "a"
+register B = codes "b"
+register PC = codes "pc"
+register SP = codes "sp"
+register SR = codes "sr"

@@ -8,55 +8,43 @@ pub mod operand;
 
 ghost use Rattle.std.specs.Prelude.{◌≡◌, ◌&&◌};
 ghost use Rattle.definition.specs.Calls.{called};
-ghost use Rattle.assembly.specs.Assemble.{counted};
+ghost use Rattle.definition.specs.Answers.{counted_of};
 ghost use Rattle.listing.specs.Call.{is_image, has_leave, list_call};
 
 use definition::Counted;
+use definition::answers::{Refusal, check};
 
 // "9. The image is no whole number of cells [...] or holds a damaged cell."
+#[tactic(auto, unfolding(crate::specs::Call::is_image))]
 pub fn is_image(image: &[i64]) -> bool
     ensures { result ≡ is_image image.now }
 {
-    if image.len() % 3 == 0 {
-        return encoding::lowest_damaged(image) == image.len() / 3;
-    }
-    false
+    image.len() % 3 == 0 && encoding::lowest_damaged(image) == image.len() / 3
 }
 
 // "16 empty cell without leave"
+#[tactic(auto, unfolding(crate::specs::Call::has_leave))]
 pub fn has_leave(leave: u64, image: &[i64]) -> bool
     ensures { result ≡ has_leave leave image.now }
 {
-    if leave == 0 {
-        return !lines::any_empty(image);
-    }
-    true
+    leave != 0 || !lines::any_empty(image)
 }
 
-fn answer(refusal: u64, count: u64) -> Counted
-    ensures { result ≡ counted refusal 0 count }
+// The image's text put into the front of the buffer, and its length, or why the buffer is left as it is.
+#[tactic(auto, using(crate::proofs::Cells::answers), unfolding(crate::specs::Call::list_call, crate::specs::Call::list_check, definition::specs::Calls::verdict))]
+fn listed(image: &[i64], text: &mut [u8], leave: u64) -> Result<u64, Refusal>
+    ensures { called (counted_of result) text.new ≡ list_call leave image.now text.old }
 {
-    Counted {
-        refusal,
-        place: 0,
-        count,
-    }
+    check(is_image(image), Refusal::Image)?;
+    check(has_leave(leave, image), Refusal::EmptyCell)?;
+    let bytes = lines::measure(image, text.len()).ok_or(Refusal::TextRoom)?;
+    lines::write(image, text);
+    Ok(bytes as u64)
 }
 
 // The image's text into the front of the buffer, or a refusal by 9, 16 or 17 that leaves it.
 pub fn list(image: &[i64], text: &mut [u8], leave: u64) -> Counted
     ensures { called result text.new ≡ list_call leave image.now text.old }
 {
-    if is_image(image) {
-        if has_leave(leave, image) {
-            let f = lines::measure(image, text.len());
-            if f.fits {
-                lines::write(image, text);
-                return answer(0, f.bytes as u64);
-            }
-            return answer(17, 0);
-        }
-        return answer(16, 0);
-    }
-    answer(9, 0)
+    Counted::from(listed(image, text, leave))
 }

@@ -1,74 +1,55 @@
-// A cell's line, put at the front of a buffer that holds any line; each function answers where it ends.
-ghost use Rattle.std.specs.Prelude.{◌≡◌, true, ◌++◌, ◌+◌, ◌≤◌, ◌<◌, length, take};
-ghost use Rattle.io.specs.Counts.{IsPrefixLen};
+// A cell's line.
+ghost use Rattle.std.specs.Prelude.{◌≡◌, true, ◌++◌, ◌+◌, ◌≤◌, length};
 ghost use Rattle.definition.specs.Encoding.{sound};
-ghost use Rattle.listing.specs.Listing.{word_text, code_text, line_text};
-ghost use Rattle.listing.specs.Pieces.{LINE, operands_at, cell_text};
+ghost use Rattle.listing.specs.Listing.{word_text, line_text};
+ghost use Rattle.listing.specs.Pieces.{instruction, cell_text};
 
-use super::operand::put_operand;
-use definition::Cell;
-use printing::{put, put_byte, put_numeral};
+use super::names::mnemonic;
+use super::operand::put_operands;
+use definition::{Cell, Instruction};
+use printing::Text;
+
+/// Room for any line.
+pub type Line = Text<80>;
 
 // `.word` and a value
-pub fn put_word(out: &mut [u8], w: i64) -> usize
-    requires { LINE ≤ length out.old }
-    ensures out_after { take result out.new ≡ word_text w }
-    ensures value { result ≡ length (word_text w) }
+pub fn put_word<const N: usize>(text: &mut Text<N>, w: i64)
+    requires { length text.old + length (word_text w) ≤ N }
+    ensures { text.new ≡ text.old ++ word_text w }
 {
-    let i = put(out, 0, b".word ");
-    put_numeral(out, i, w)
+    text.put(b".word ");
+    text.put_number(w);
 }
 
-// What follows a mnemonic; t is the tag less 2.
-pub fn put_operands(out: &mut [u8], at: usize, t: u32, first: i64, second: i64) -> usize
-    requires { (at ≤ 5) × (LINE ≤ length out.old) }
-    ensures out_after { take result out.new ≡ take at out.old ++ operands_at t first second }
-    ensures value { result ≡ at + length (operands_at t first second) }
+pub fn put_instruction<const N: usize>(text: &mut Text<N>, i: Instruction)
+    requires { length text.old + length (instruction i) ≤ N }
+    ensures { text.new ≡ text.old ++ instruction i }
 {
-    let m = t / 150 % 6;
-    let n = t / 25 % 6;
-    if m == 0 {
-        return at;
-    }
-    let i = put_byte(out, at, 32);
-    let i = put_operand(out, i, m, t / 5 % 5, first);
-    if n == 0 {
-        return i;
-    }
-    let i = put(out, i, b", ");
-    put_operand(out, i, n, t % 5, second)
-}
-
-pub fn put_code(out: &mut [u8], t: u32, first: i64, second: i64) -> usize
-    requires { (t < 29700) × (LINE ≤ length out.old) }
-    ensures out_after { take result out.new ≡ code_text t first second }
-    ensures value { result ≡ length (code_text t first second) }
-{
-    let i = super::names::put_name(out, 0, super::names::mnemonic(t / 900));
-    put_operands(out, i, t, first, second)
+    text.put(mnemonic(i.op));
+    put_operands(text, i.x, i.y);
 }
 
 // "an empty cell as `.word 0`": both its numbers are 0.
-pub fn put_content(out: &mut [u8], v: Cell) -> usize
-    requires { (sound v ≡ true) × (LINE ≤ length out.old) }
-    ensures out_after { take result out.new ≡ cell_text v }
-    ensures value { result ≡ length (cell_text v) }
+pub fn put_content<const N: usize>(text: &mut Text<N>, v: Cell)
+    requires sound { sound v ≡ true }
+    requires room { length text.old + length (cell_text v) ≤ N }
+    ensures { text.new ≡ text.old ++ cell_text v }
 {
-    let t = v.tag;
-    let f = v.first;
-    let s = v.second;
-    if t < 2 {
-        return put_word(out, f);
+    if v.tag < 2 {
+        put_word(text, v.first);
+    } else {
+        let t = (v.tag as u32) - 2;
+        put_instruction(text, encoding::decode(t, v.first, v.second));
     }
-    put_code(out, (t as u32) - 2, f, s)
 }
 
-pub fn put_line(out: &mut [u8], v: Cell) -> usize
-    requires { (sound v ≡ true) × (LINE ≤ length out.old) }
-    ensures out_after { take result out.new ≡ line_text v }
-    ensures value { result ≡ length (line_text v) }
-    ensures prefix_len { IsPrefixLen result out.new }
+#[tactic(auto, using(crate::proofs::Pieces::shorts), unfolding(crate::specs::Listing::line_text))]
+pub fn line_of(v: Cell) -> Line
+    requires { sound v ≡ true }
+    ensures { result ≡ line_text v }
 {
-    let i = put_content(out, v);
-    put_byte(out, i, 10)
+    let mut text = Line::new();
+    put_content(&mut text, v);
+    text.push(b'\n');
+    text
 }

@@ -6,64 +6,47 @@ ghost use Rattle.listing.specs.Listing.{image_cells, any_empty};
 ghost use Rattle.listing.specs.Call.{image_text, in_front};
 ghost use Rattle.listing.specs.Pieces.{fitted};
 
-use super::line::put_line;
+use super::line::line_of;
+use memory::get_cell;
 
-// Whether a text fits into some room, and if so its bytes.
-#[derive(Clone, Copy)]
-pub struct Fit {
-    pub fits: bool,
-    pub bytes: usize,
-}
-
+#[tactic(auto, using(crate::proofs::Cells::steps))]
 pub fn any_empty(image: &[i64]) -> bool
     ensures { result ≡ any_empty (image_cells image.now) }
 {
-    let count = image.len() / 3;
-    let mut n: usize = 0;
-    while n < count {
-        let t = image[3 * n];
-        if word::eq(t, 0) {
+    for n in 0..image.len() / 3 {
+        if get_cell(image, n).tag == 0 {
             return true;
         }
-        n += 1;
     }
     false
 }
 
-// The line is made and only counted, so that nothing is written where the text does not fit.
-pub fn measure(image: &[i64], room: usize) -> Fit
+// How many bytes the lines take, if so many are there. A line is made and only counted, so that nothing is written where the text does not fit.
+#[tactic(auto, using(crate::proofs::Cells::steps))]
+pub fn measure(image: &[i64], room: usize) -> Option<usize>
     requires { lowest_damaged 0 image.now ≡ cell_count image.now }
     ensures { result ≡ fitted (length (image_text image.now)) room }
 {
-    let count = image.len() / 3;
-    let mut line = [0u8; 80];
-    let mut n: usize = 0;
-    let mut bytes: usize = 0;
-    while n < count {
-        let k = put_line(&mut line, memory::get_cell(image, n));
-        if room - bytes < k {
-            return Fit {
-                fits: false,
-                bytes: 0,
-            };
-        }
-        bytes += k;
-        n += 1;
+    let mut left = room;
+    for n in 0..image.len() / 3 {
+        let line = line_of(get_cell(image, n));
+        left = left.checked_sub(line.as_bytes().len())?;
     }
-    Fit { fits: true, bytes }
+    Some(room - left)
 }
 
+#[tactic(auto, using(crate::proofs::Cells::steps))]
 pub fn write(image: &[i64], text: &mut [u8])
-    requires { (lowest_damaged 0 image.now ≡ cell_count image.now) × (length (image_text image.now) ≤ length text.old) }
+    requires undamaged { lowest_damaged 0 image.now ≡ cell_count image.now }
+    requires room { length (image_text image.now) ≤ length text.old }
     ensures { text.new ≡ in_front (image_text image.now) text.old }
 {
-    let count = image.len() / 3;
-    let mut line = [0u8; 80];
-    let mut n: usize = 0;
-    let mut at: usize = 0;
-    while n < count {
-        let k = put_line(&mut line, memory::get_cell(image, n));
-        at = printing::put(text, at, &line[..k]);
-        n += 1;
+    let mut at = 0;
+    for n in 0..image.len() / 3 {
+        let line = line_of(get_cell(image, n));
+        let bytes = line.as_bytes();
+        let end = at + bytes.len();
+        text[at..end].copy_from_slice(bytes);
+        at = end;
     }
 }

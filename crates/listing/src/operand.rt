@@ -1,62 +1,81 @@
-// An operand as text, put behind the first `at` bytes of a line; each function answers where it ends.
-ghost use Rattle.std.specs.Prelude.{◌≡◌, ◌++◌, ◌+◌, ◌≤◌, ◌<◌, length, take};
-ghost use Rattle.listing.specs.Listing.{index_text, register_text, operand_text};
-ghost use Rattle.listing.specs.Pieces.{inner_text};
+// An instruction's operands as text.
+ghost use Rattle.std.specs.Prelude.{◌≡◌, ◌++◌, ◌+◌, ◌≤◌, length};
+ghost use Rattle.listing.specs.Listing.{index_text};
+ghost use Rattle.listing.specs.Pieces.{named, operand, is_absent, operands};
 
-use printing::{put_byte, put_numeral};
+use super::names::register;
+use definition::{Operand, Reg};
+use printing::Text;
 
 // `%` and a name
-pub fn put_register(out: &mut [u8], at: usize, r: u32) -> usize
-    requires { (at + 6 ≤ length out.old) × (r < 5) }
-    ensures out_after { take result out.new ≡ take at out.old ++ register_text r }
-    ensures value { result ≡ at + length (register_text r) }
+pub fn put_register<const N: usize>(text: &mut Text<N>, r: Reg)
+    requires { length text.old + length (named r) ≤ N }
+    ensures { text.new ≡ text.old ++ named r }
 {
-    let i = put_byte(out, at, 37);
-    super::names::put_name(out, i, super::names::register(r))
+    text.push(b'%');
+    text.put(register(r));
 }
 
 // "index 0 as +0"
-pub fn put_index(out: &mut [u8], at: usize, w: i64) -> usize
-    requires { at + 22 ≤ length out.old }
-    ensures out_after { take result out.new ≡ take at out.old ++ index_text w }
-    ensures value { result ≡ at + length (index_text w) }
+#[tactic(auto, using(crate::proofs::Pieces::indices))]
+pub fn put_index<const N: usize>(text: &mut Text<N>, w: i64)
+    requires { length text.old + length (index_text w) ≤ N }
+    ensures { text.new ≡ text.old ++ index_text w }
 {
-    if word::lt(w, 0) {
-        return put_numeral(out, at, w);
+    if w >= 0 {
+        text.push(b'+');
     }
-    let i = put_byte(out, at, 43);
-    put_numeral(out, i, w)
+    text.put_number(w);
 }
 
-// What stands between square brackets: mode 3, 4 or 5.
-pub fn put_inner(out: &mut [u8], at: usize, m: u32, r: u32, w: i64) -> usize
-    requires { (at + 28 ≤ length out.old) × (r < 5) }
-    ensures out_after { take result out.new ≡ take at out.old ++ inner_text m r w }
-    ensures value { result ≡ at + length (inner_text m r w) }
+#[tactic(auto, using(printing::proofs::Laws::texts))]
+pub fn put_operand<const N: usize>(text: &mut Text<N>, x: Operand)
+    requires { length text.old + length (operand x) ≤ N }
+    ensures { text.new ≡ text.old ++ operand x }
 {
-    if m == 3 {
-        return put_numeral(out, at, w);
+    match x {
+        Operand::Absent => {}
+        Operand::Imm(w) => text.put_number(w),
+        Operand::Register(r) => put_register(text, r),
+        Operand::Dir(w) => {
+            text.push(b'[');
+            text.put_number(w);
+            text.push(b']');
+        }
+        Operand::Ind(r) => {
+            text.push(b'[');
+            put_register(text, r);
+            text.push(b']');
+        }
+        Operand::Idx(r, w) => {
+            text.push(b'[');
+            put_register(text, r);
+            put_index(text, w);
+            text.push(b']');
+        }
     }
-    let i = put_register(out, at, r);
-    if m == 4 {
-        return i;
-    }
-    put_index(out, i, w)
 }
 
-// An operand of mode 1 to 5.
-pub fn put_operand(out: &mut [u8], at: usize, m: u32, r: u32, w: i64) -> usize
-    requires { (at + 30 ≤ length out.old) × (r < 5) × (0 < m) }
-    ensures out_after { take result out.new ≡ take at out.old ++ operand_text m r w }
-    ensures value { result ≡ at + length (operand_text m r w) }
+fn is_absent(x: Operand) -> bool
+    ensures { result ≡ is_absent x }
 {
-    if m == 1 {
-        return put_numeral(out, at, w);
+    matches!(x, Operand::Absent)
+}
+
+// What follows a mnemonic.
+#[tactic(auto, using(printing::proofs::Laws::texts))]
+pub fn put_operands<const N: usize>(text: &mut Text<N>, x: Operand, y: Operand)
+    requires { length text.old + length (operands x y) ≤ N }
+    ensures { text.new ≡ text.old ++ operands x y }
+{
+    if is_absent(x) {
+        return;
     }
-    if m == 2 {
-        return put_register(out, at, r);
+    text.push(b' ');
+    put_operand(text, x);
+    if is_absent(y) {
+        return;
     }
-    let i = put_byte(out, at, 91);
-    let j = put_inner(out, i, m, r, w);
-    put_byte(out, j, 93)
+    text.put(b", ");
+    put_operand(text, y);
 }

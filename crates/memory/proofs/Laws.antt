@@ -1,5 +1,7 @@
 -- Cells read and written: what the proofs of this crate and of those above cite.
+use Rattle.std.specs.Prelude.{Option, None, Some}
 use mathlib.Core.Path.{◌≡◌, refl, sym, ap, ◌∙◌}
+use Rattle.std.proofs.lemmas.Option.{none-some}
 use mathlib.Core.Bool.{Bool, true, false, cond, true≢false}
 use mathlib.Core.List.{List}
 use Prim.Native.Nat.{ℕ, zero, suc, ◌<◌, ◌≤◌}
@@ -14,64 +16,69 @@ use mir.Facts.{to_z-of_z}
 use borrow.Author.Tests.{ltb-true, lt-ltb, le-ltb}
 use Rattle.definition.specs.declared.Cell.{Cell}
 use Rattle.definition.specs.declared.Word.TheVariants.{Is, Empty, NotWord}
-use Rattle.definition.specs.declared.Found.TheVariants.{Here, Outside}
 use Rattle.definition.specs.Memory.{cell_count, cell_at, put_cell, get, found, word_at}
-use Rattle.definition.specs.Constants.{CELLS-MOST}
 use Rattle.definition.proofs.Cells.{length-put, cell_same, cell_other}
-use Rattle.memory.specs.Overlay.{overlay, NO-CELL}
+use Rattle.memory.specs.declared.Write.{Write}
+use Rattle.memory.specs.Overlay.{overlay}
 
-pub get_in : (l : List ℤ) (n : ℕ) → n < cell_count l → get l n ≡ Here (cell_at l n)
+pub get_in : (l : List ℤ) (n : ℕ) → n < cell_count l → get l n ≡ Some (cell_at l n)
 unfolding get found
 get_in l n h = ap (λ (b : Bool). found b (cell_at l n)) (lt-ltb n (cell_count l) h)
 
-pub get-out : (l : List ℤ) (n : ℕ) → cell_count l ≤ n → get l n ≡ Outside
+pub get-out : (l : List ℤ) (n : ℕ) → cell_count l ≤ n → get l n ≡ None
 unfolding get found
 get-out l n h = ap (λ (b : Bool). found b (cell_at l n)) (le-ltb n (cell_count l) h)
 
 -- what was found is inside
-pub get-here : (l : List ℤ) (n : ℕ) (v : Cell) → get l n ≡ Here v → ltb n (cell_count l) ≡ true
+pub get-here : (l : List ℤ) (n : ℕ) (v : Cell) → get l n ≡ Some v → ltb n (cell_count l) ≡ true
 unfolding get found
 get-here l n v h = go (ltb n (cell_count l)) h
   where
-    go : (b : Bool) → found b (cell_at l n) ≡ Here v → b ≡ true
+    go : (b : Bool) → found b (cell_at l n) ≡ Some v → b ≡ true
     go true h = refl
     go false h = let z : ◌≡◌ {A = ℕ} 0 1 = cc in absurd (omega arith)
 
 -- ---- the write that waits
 
-module _ (l : List ℤ) (n : ℕ) (v : Cell) where
-  pub over-in : n < cell_count l → overlay n v l ≡ put_cell l n v
+module _ (l : List ℤ) (w : Write) where
+  pub over-in : w.at < cell_count l → overlay (Some w) l ≡ put_cell l w.at w.v
   unfolding overlay
-  over-in h = ap (λ (b : Bool). cond b (put_cell l n v) l) (lt-ltb n (cell_count l) h)
+  over-in h = ap (λ (b : Bool). cond b (put_cell l w.at w.v) l) (lt-ltb w.at (cell_count l) h)
 
-  pub over_none : cell_count l ≤ n → overlay n v l ≡ l
+  pub over_none : cell_count l ≤ w.at → overlay (Some w) l ≡ l
   unfolding overlay
-  over_none h = ap (λ (b : Bool). cond b (put_cell l n v) l) (le-ltb n (cell_count l) h)
+  over_none h = ap (λ (b : Bool). cond b (put_cell l w.at w.v) l) (le-ltb w.at (cell_count l) h)
 
-  pub length_over : length (overlay n v l) ≡ length l
-  unfolding overlay
-  length_over = go (ltb n (cell_count l))
-    where
-      go : (b : Bool) → length (cond b (put_cell l n v) l) ≡ length l
-      go true = length-put l n v
-      go false = refl
+  pub over-same : w.at < cell_count l → get (overlay (Some w) l) w.at ≡ Some w.v
+  over-same h = ap (λ (x : List ℤ). get x w.at) (over-in h) ∙ get_in (put_cell l w.at w.v) w.at (omega (arith, length-put l w.at w.v)) ∙ ap Some (cell_same l w.at w.v h)
 
-  pub over-same : n < cell_count l → get (overlay n v l) n ≡ Here v
-  over-same h = ap (λ (x : List ℤ). get x n) (over-in h) ∙ get_in (put_cell l n v) n (omega (arith, length-put l n v)) ∙ ap Here (cell_same l n v h)
+  pub over-out : cell_count l ≤ w.at → get (overlay (Some w) l) w.at ≡ get l w.at
+  over-out h = ap (λ (x : List ℤ). get x w.at) (over_none h)
 
-  pub over-out : cell_count l ≤ n → get (overlay n v l) n ≡ Outside
-  over-out h = ap (λ (x : List ℤ). get x n) (over_none h) ∙ get-out l n h
-
-  pub over-other : (m : ℕ) → (n ≡ m → ⊥) → get (overlay n v l) m ≡ get l m
+  pub over-other : (m : ℕ) → (w.at ≡ m → ⊥) → get (overlay (Some w) l) m ≡ get l m
   unfolding overlay get
-  over-other m h = go (ltb n (cell_count l))
+  over-other m h = go (ltb w.at (cell_count l))
     where
-      go : (b : Bool) → get (cond b (put_cell l n v) l) m ≡ get l m
-      go true = rw (length-put l n v, cell_other l n m v (λ e. h (sym e)))
+      go : (b : Bool) → get (cond b (put_cell l w.at w.v) l) m ≡ get l m
+      go true = rw (length-put l w.at w.v, cell_other l w.at m w.v (λ e. h (sym e)))
       go false = refl
 
-pub over-no-cell : (l : List ℤ) (v : Cell) → cell_count l ≤ CELLS-MOST → overlay NO-CELL v l ≡ l
-over-no-cell l v h = over_none l NO-CELL v (omega arith)
+pub length_over : (l : List ℤ) (x : Option Write) → length (overlay x l) ≡ length l
+unfolding overlay
+length_over l None = refl
+length_over l (Some w) = go (ltb w.at (cell_count l))
+  where
+    go : (b : Bool) → length (cond b (put_cell l w.at w.v) l) ≡ length l
+    go true = length-put l w.at w.v
+    go false = refl
+
+pub over-gone : (l : List ℤ) (x : Option Write) (n : ℕ) → get l n ≡ None → get (overlay x l) n ≡ None
+unfolding get found
+over-gone l x n h = rw (length_over l x) (go (ltb n (cell_count l)) h)
+  where
+    go : (b : Bool) → found b (cell_at l n) ≡ None → found b (cell_at (overlay x l) n) ≡ None
+    go true h = absurd (none-some _ (sym h))
+    go false h = refl
 
 -- ---- words
 

@@ -5,10 +5,14 @@ ghost use Rattle.std.specs.Prelude.{◌≡◌, ◌<◌, pos};
 ghost use Rattle.definition.specs.Memory.{cell_count, cell_at, put_cell, get, word_at, extract_word, as_address, extract_address, is_instruction, word as wordCell};
 ghost use Rattle.memory.specs.Overlay.{overlay};
 
-use definition::{Address, Cell, Found, Word};
+use definition::{Cell, Word};
 
-// The address of no cell: no list has so many, so that a write there writes nothing.
-pub const NO_CELL: u32 = 4294967295;
+// A cell write that waits: v at `at`.
+#[derive(Clone, Copy)]
+pub struct Write {
+    pub at: u32,
+    pub v: Cell,
+}
 
 pub fn get_cell(cells: &[i64], n: usize) -> Cell
     requires { n < cell_count cells.now }
@@ -23,29 +27,40 @@ pub fn get_cell(cells: &[i64], n: usize) -> Cell
 }
 
 // Memory::get
-pub fn get(cells: &[i64], n: u32) -> Found
+pub fn get(cells: &[i64], n: u32) -> Option<Cell>
     ensures { result ≡ get cells.now n }
 {
     let at = n as usize;
     if at < cells.len() / 3 {
-        Found::Here(get_cell(cells, at))
+        Some(get_cell(cells, at))
     } else {
-        Found::Outside
+        None
     }
 }
 
-// Memory::get after a write that waits: v at `at`, or nothing where `at` is outside.
-pub fn read_over(cells: &[i64], at: u32, v: Cell, n: u32) -> Found
-    ensures { result ≡ get (overlay at v cells.now) n }
+// Memory::get once the write that waits is made.
+pub fn read_over(cells: &[i64], write: Option<Write>, n: u32) -> Option<Cell>
+    ensures { result ≡ get (overlay write cells.now) n }
 {
-    if at == n {
-        let i = n as usize;
-        if i < cells.len() / 3 {
-            return Found::Here(v);
+    let old = get(cells, n)?;
+    if let Some(w) = write {
+        if w.at == n {
+            return Some(w.v);
         }
-        return Found::Outside;
     }
-    get(cells, n)
+    Some(old)
+}
+
+// The write that waits, made: nothing where its address is outside.
+pub fn put_over(cells: &mut [i64], write: Option<Write>)
+    ensures { cells.new ≡ overlay write cells.old }
+{
+    if let Some(w) = write {
+        let n = w.at as usize;
+        if n < cells.len() / 3 {
+            put_cell(cells, n, w.v);
+        }
+    }
 }
 
 // Memory::set
@@ -81,18 +96,18 @@ pub fn extract_word(v: Cell) -> Word
     word_from(v.tag, v.first)
 }
 
-pub fn as_address(w: Word) -> Address
+pub fn as_address(w: Word) -> Option<u32>
     ensures { result ≡ as_address w }
 {
     match w {
         Word::Is(w) => word::to_address(w),
-        Word::Empty => Address::At(0),
-        Word::NotWord => Address::NotAddress,
+        Word::Empty => Some(0),
+        Word::NotWord => None,
     }
 }
 
 // Cell::extract_address
-pub fn extract_address(v: Cell) -> Address
+pub fn extract_address(v: Cell) -> Option<u32>
     ensures { result ≡ extract_address v }
 {
     as_address(extract_word(v))

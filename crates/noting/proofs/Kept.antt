@@ -1,7 +1,8 @@
 -- A record put into the ring, and a step noted.
+use Rattle.std.specs.Prelude.{Option, Some, None}
 use mathlib.Core.Path.{◌≡◌, refl, sym, ap, ◌∙◌}
 use mathlib.Core.Bool.{Bool, true, false, cond}
-use mathlib.Core.List.{List, [], ◌∷◌, ◌++◌}
+use mathlib.Core.List.{List, ◌++◌}
 use Prim.Native.Nat.{ℕ, ◌+◌, ◌*◌, ◌-◌, ◌<◌, ◌≤◌}
 use native.Mathlib.Omega.{arith}
 use lib.IntN.{ℤ, pos, nat_abs}
@@ -10,8 +11,8 @@ use lib.Seq.{length-take-le, drop-drop}
 use Rattle.definition.specs.Calls.{row_of}
 use Rattle.definition.specs.Runtime.{Machine, step}
 use Rattle.definition.specs.Accepted.{AcceptedMachine}
-use Rattle.runtime.specs.declared.State.{State}
-use Rattle.runtime.specs.Meaning.{machine_at}
+use Rattle.row.specs.declared.State.{State}
+use Rattle.row.specs.Meaning.{machine_at}
 use Rattle.journal.specs.Writes.{step_writes}
 use Rattle.journal.specs.Journal.{record_of, start_of, count_of, records, put_record, remember, is_journal, begun, step_record, noted}
 use Rattle.journal.proofs.Ring.{JournalIn, journal-in, journal-is, put-length, put_front, records-length}
@@ -19,17 +20,19 @@ use Rattle.journal.proofs.Record.{record-length}
 use Rattle.ring.specs.Meaning.{next_place, advanced}
 use Rattle.ring.proofs.Laws.{next-in, remember-is}
 use Rattle.noting.specs.declared.Noted.{Noted}
-use Rattle.noting.specs.Meaning.{held_of, helds_of, row_of_state, RowFits}
+use Rattle.noting.specs.declared.Was.{Was}
+use Rattle.noting.specs.declared.Entry.{Entry}
+use Rattle.noting.specs.Meaning.{own_of, entry_of, helds_of, row_of_state, RowFits}
 use Rattle.noting.proofs.Record.{row-length}
 
 helds-few : (w : Noted) → length (helds_of w) ≤ 4
-helds-few w = go w.own.writes w.entry.enters
+helds-few w = go w.own w.entry
   where
-    go : (a b : Bool) → length (cond a (held_of w.own.was ∷ []) [] ++ cond b (held_of w.entry.pc ∷ held_of w.entry.sr ∷ held_of w.entry.code ∷ []) []) ≤ 4
-    go true true = omega arith
-    go true false = omega arith
-    go false true = omega arith
-    go false false = omega arith
+    go : (a : Option Was) (b : Option Entry) → length (own_of a ++ entry_of b) ≤ 4
+    go (Some a) (Some b) = omega arith
+    go (Some a) None = omega arith
+    go None (Some b) = omega arith
+    go None None = omega arith
 
 module _ (m : State) (w : Noted) where
   abbrev pub kept : List ℤ

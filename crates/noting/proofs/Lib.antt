@@ -1,3 +1,3 @@
-pub mod Record
 pub mod Laws
+pub mod Record
 pub mod Kept

@@ -1,142 +1,90 @@
 // instructions.rs, its arithmetic: what a result does to the registers, and (words.rt) the instructions that compute on words.
 #![tactic(auto)]
 
-ghost use Rattle.std.specs.Prelude.{◌≡◌, ◌<◌, List, ℤ, pos, false};
-ghost use Rattle.definition.specs.Registers.{reg_at};
+ghost use Rattle.std.specs.Prelude.{◌≡◌, ◌<◌, cond, nat_abs, IfOk};
+ghost use Rattle.definition.specs.declared.Error.TheVariants.{InvalidInstruction};
+ghost use Rattle.definition.specs.Word.{is_shift, shl_w, shr_w};
 ghost use Rattle.definition.specs.Instructions.{sign_flags, put_result, put_wrapped, put_compared, put_quotient, put_shifted};
 ghost use Rattle.registers.specs.Meaning.{settled};
-ghost use Rattle.arguments.specs.Taken.{cell_res};
-ghost use Rattle.operations.specs.Two.{two_words, took_two, shift_w};
 
-use arguments::taken;
-use arguments::taken::CellTaken;
-use definition::{Error, Quotient, Registers, Wrapped};
-use registers::Put;
+use definition::{Error, Reg, Registers, Wrapped};
 
 pub mod words;
 
-// Two words, or an error, and the registers as they are left. Where ok, `error` is a filler; else the words are.
-#[derive(Clone, Copy)]
-pub struct Two {
-    pub ok: bool,
-    pub error: Error,
-    pub v: i64,
-    pub w: i64,
-    pub s: Registers,
-}
-
-fn no_words(s: Registers, error: Error) -> Two
-    ensures { result ≡ record { ok = false; error = error; v = pos 0; w = pos 0; s = s } }
-{
-    Two {
-        ok: false,
-        error,
-        v: 0,
-        w: 0,
-        s,
-    }
-}
-
-// The word of the operand's cell, which was taken, then the register's. Reading the cell stands apart, so that each half is small enough to be compiled in line
-// in the ten instructions.
-pub fn two_words(given: CellTaken, r: u32) -> Two
-    ensures { (l : List ℤ) → result ≡ took_two (two_words (reg_at r) (cell_res l given)) }
-{
-    let first = taken::word_in(given, Error::Extract);
-    let between = first.s;
-    if first.ok {
-        let second = arguments::register_word(between, r);
-        let after = second.s;
-        if second.ok {
-            return Two {
-                ok: true,
-                error: Error::Reset,
-                v: first.value,
-                w: second.value,
-                s: after,
-            };
-        }
-        let error = second.error;
-        return no_words(after, error);
-    }
-    let error = first.error;
-    no_words(between, error)
-}
-
 // Z and N
-pub fn sign_flags(s: Registers, w: i64) -> Registers
-    ensures { result ≡ sign_flags w s }
+#[tactic(auto, using(word::proofs::Laws::back))]
+pub fn sign_flags(s: &mut Registers, w: i64)
+    ensures { s.new ≡ sign_flags w s.old }
 {
-    registers::put_flag(registers::put_flag(s, 1, word::eq(w, 0)), 2, word::lt(w, 0))
+    registers::put_flag(s, 1, w == 0);
+    registers::put_flag(s, 2, w < 0);
 }
 
 // "and, or, xor, not, div, shl and shr set Z and N and leave V."
-pub fn put_result(s: Registers, r: u32, w: i64) -> Put
-    ensures { result ≡ settled s (put_result (reg_at r) w s) }
+#[tactic(auto, using(word::proofs::Laws::back), unfolding(definition::specs::Instructions::put_result, definition::specs::Instructions::and_flags))]
+pub fn put_result(s: &mut Registers, r: Reg, w: i64) -> Result<(), Error>
+    ensures { (result, s.new) ≡ settled s.old (put_result r w s.old) }
 {
-    let q = registers::put_reg(s, r, memory::word_cell(w));
-    let ok = q.ok;
-    let t = q.s;
-    if ok {
-        registers::accept(sign_flags(t, w))
-    } else {
-        q
-    }
+    registers::put_reg(s, r, memory::word_cell(w))?;
+    sign_flags(s, w);
+    Ok(())
 }
 
 // "add, sub, mul and neg wrap at 64 bits and set V, Z, N."
-pub fn put_wrapped(s: Registers, r: u32, x: Wrapped) -> Put
-    ensures { result ≡ settled s (put_wrapped (reg_at r) x s) }
+#[tactic(auto, using(word::proofs::Laws::back), unfolding(definition::specs::Instructions::put_wrapped, definition::specs::Instructions::and_flags))]
+pub fn put_wrapped(s: &mut Registers, r: Reg, x: Wrapped) -> Result<(), Error>
+    ensures { (result, s.new) ≡ settled s.old (put_wrapped r x s.old) }
 {
-    let q = registers::put_reg(s, r, memory::word_cell(x.value));
-    let ok = q.ok;
-    let t = q.s;
-    if ok {
-        registers::accept(sign_flags(registers::put_flag(t, 3, x.overflow), x.value))
-    } else {
-        q
-    }
+    registers::put_reg(s, r, memory::word_cell(x.value))?;
+    registers::put_flag(s, 3, x.overflow);
+    sign_flags(s, x.value);
+    Ok(())
 }
 
 // "cmp sets Z if the words are equal and N if operand < register."
-pub fn put_compared(s: Registers, v: i64, w: i64) -> Put
-    ensures { result ≡ settled s (put_compared v w s) }
+#[tactic(auto, using(word::proofs::Laws::back), unfolding(definition::specs::Instructions::put_compared))]
+pub fn put_compared(s: &mut Registers, v: i64, w: i64) -> Result<(), Error>
+    ensures { (result, s.new) ≡ settled s.old (put_compared v w s.old) }
 {
-    registers::accept(registers::put_flag(
-        registers::put_flag(s, 1, word::eq(v, w)),
-        2,
-        word::lt(v, w),
-    ))
+    registers::put_flag(s, 1, v == w);
+    registers::put_flag(s, 2, v < w);
+    Ok(())
 }
 
 // "Operand 0, or smallest word / -1, raises code 1."
-pub fn put_quotient(s: Registers, r: u32, x: Quotient) -> Put
-    ensures { result ≡ settled s (put_quotient (reg_at r) x s) }
+#[tactic(auto, using(word::proofs::Laws::back), unfolding(definition::specs::Instructions::put_quotient))]
+pub fn put_quotient(s: &mut Registers, r: Reg, x: Option<i64>) -> Result<(), Error>
+    ensures { (result, s.new) ≡ settled s.old (put_quotient r x s.old) }
 {
-    match x {
-        Quotient::Rounded(w) => put_result(s, r, w),
-        Quotient::NoQuotient => registers::refuse(s, Error::DivByZero),
-    }
+    let w = x.ok_or(Error::DivByZero)?;
+    put_result(s, r, w)
 }
 
-fn shift(left: bool, w: i64, k: u32) -> i64
-    requires { k < 64 }
-    ensures { result ≡ shift_w left w k }
-{
-    if left {
-        word::shl(w, k)
-    } else {
-        word::shr(w, k)
-    }
-}
-
-// "Shift amounts are 0 to 63; others raise code 2."
-pub fn put_shifted(s: Registers, r: u32, left: bool, v: i64, w: i64) -> Put
-    ensures { result ≡ settled s (put_shifted (shift_w left) (reg_at r) v w s) }
+// The amount of a shift: "Shift amounts are 0 to 63; others raise code 2."
+#[tactic(auto, using(word::proofs::Laws::back), unfolding(definition::specs::Word::is_shift))]
+fn amount(v: i64) -> Result<u32, Error>
+    ensures value { result ≡ cond (is_shift v) (Ok (nat_abs v)) (Err InvalidInstruction) }
+    ensures below { IfOk result (λ n. n < 64) }
 {
     if word::is_shift(v) {
-        put_result(s, r, shift(left, w, v as u32))
+        Ok(v as u32)
     } else {
-        registers::refuse(s, Error::InvalidInstruction)
+        Err(Error::InvalidInstruction)
     }
+}
+
+#[tactic(auto, using(word::proofs::Laws::back), unfolding(definition::specs::Instructions::put_shifted))]
+pub fn put_shl(s: &mut Registers, r: Reg, v: i64, w: i64) -> Result<(), Error>
+    ensures { (result, s.new) ≡ settled s.old (put_shifted shl_w r v w s.old) }
+{
+    let n = amount(v)?;
+    put_result(s, r, word::shl(w, n))
+}
+
+#[tactic(auto, using(word::proofs::Laws::back), unfolding(definition::specs::Instructions::put_shifted))]
+pub fn put_shr(s: &mut Registers, r: Reg, v: i64, w: i64) -> Result<(), Error>
+    ensures { (result, s.new) ≡ settled s.old (put_shifted shr_w r v w s.old) }
+{
+    let n = amount(v)?;
+    put_result(s, r, word::shr(w, n))
 }

@@ -1,19 +1,18 @@
 -- How a text grows, and the digits of a number. Assumes nothing.
-use mathlib.Core.Path.{◌≡◌, refl, sym, ap, ◌∙◌}
+use mathlib.Core.Path.{◌≡◌, sym, ap, ◌∙◌}
 use mathlib.Core.Bool.{true, false, true≢false, false≢true}
-use mathlib.Core.List.{List, [], ◌∷◌, ◌++◌, append_assoc, append-nil}
-use Prim.Native.Nat.{ℕ, zero, suc, ◌+◌, ◌-◌, ◌/◌, ◌%◌, ◌^◌, ◌≤◌, ◌<◌}
+use mathlib.Core.List.{List, [], ◌∷◌, ◌++◌, append_assoc}
+use Prim.Native.Nat.{ℕ, zero, suc, ◌-◌, ◌/◌, ◌%◌, ◌^◌, ◌≤◌, ◌<◌}
 use native.Mathlib.Omega.{arith}
 use native.Mathlib.Nat.{pow-zero, pow-suc}
-use native.Mathlib.Numerals.{add-one}
 use lib.IntN.{ℤ, pos, negsuc, nat_abs}
-use lib.Signed.{lt_z}
-use lib.ListN.{length, drop, get_or, length-append}
-use lib.Seq.{drop-cons, drop-length, drop-drop}
+use lib.ListN.{length, drop, length-append}
+use lib.Seq.{drop-length}
 use borrow.Author.Tests.{lt-ltb, le-ltb}
+use Rattle.std.proofs.lemmas.Grind.{common_steps}
 use Rattle.io.specs.Digits.{hex_digit_ascii, last_digits, IsDigitCount}
-use Rattle.word.proofs.Laws.{ltb-elim, pos-sign}
-use Rattle.printing.specs.Decimal.{decimal_in, decimal, numeral}
+use Rattle.word.proofs.Laws.{ltb-elim}
+use Rattle.printing.specs.Decimal.{decimal_in, decimal, numeral, is_negative}
 
 -- ---- a text grows
 
@@ -25,24 +24,8 @@ put_then x t u p q = q ∙ ap (λ (l : List ℕ). l ++ u) p ∙ append_assoc x t
 pub put_next : (x p rest : List ℕ) {y left whole : List ℕ} → y ≡ x ++ p → left ≡ p ++ rest → x ++ left ≡ whole → y ++ rest ≡ whole
 put_next x p rest e l w = ap (λ (t : List ℕ). t ++ rest) e ∙ append_assoc x p rest ∙ ap (λ (t : List ℕ). x ++ t) (sym l) ∙ w
 
--- nothing is left
-pub put_last : (x : List ℕ) {left whole : List ℕ} → left ≡ [] → x ++ left ≡ whole → x ≡ whole
-put_last x e w = sym (append-nil x) ∙ ap (λ (t : List ℕ). x ++ t) (sym e) ∙ w
-
--- the next byte of a text
-pub byte_next : (s : List ℕ) (i : ℕ) → i < length s → drop i s ≡ (get_or s i 0 ∷ []) ++ drop (i + 1) s
-byte_next s i h = rw (add-one, drop-cons s i 0 h)
-
 pub drop-end {ℓ} : {A : Type ℓ} (l : List A) (i : ℕ) → i ≡ length l → drop i l ≡ []
 drop-end l i e = rw (e, drop-length)
-
--- what two texts, one after the other, keep behind them
-pub kept_then : (x y z : List ℕ) (a b : ℕ) → a ≤ b → drop a y ≡ drop a x → drop b z ≡ drop b y → drop b z ≡ drop b x
-kept_then x y z a b h p q =
-    let e : a + (b - a) ≡ b = omega arith in
-    let f : drop b y ≡ drop (b - a) (drop a y) = sym (drop-drop (b - a) a y ∙ ap (λ (k : ℕ). drop k y) e) in
-    let g : drop b x ≡ drop (b - a) (drop a x) = sym (drop-drop (b - a) a x ∙ ap (λ (k : ℕ). drop k x) e) in
-    q ∙ f ∙ ap (λ (l : List ℕ). drop (b - a) l) p ∙ sym g
 
 -- ---- the digits are the ones that `io::decimal` gives
 
@@ -85,31 +68,33 @@ decimal-is (suc j) n f h =
 
 -- ---- the sign
 
-pub minus-text : (v : ℤ) (n : ℕ) → lt_z v (pos 0) ≡ true → n ≡ nat_abs v → numeral v ≡ 45 ∷ decimal n
+pub minus-text : (v : ℤ) (n : ℕ) → is_negative v ≡ true → n ≡ nat_abs v → numeral v ≡ 45 ∷ decimal n
 unfolding numeral
-minus-text (pos k) n h e = absurd (false≢true (sym (pos-sign k) ∙ h))
+minus-text (pos k) n h e = absurd (false≢true h)
 minus-text (negsuc k) n h e = rw e
 
-pub plus-text : (v : ℤ) (n : ℕ) → lt_z v (pos 0) ≡ false → n ≡ nat_abs v → numeral v ≡ numeral (pos n)
+pub plus-text : (v : ℤ) (n : ℕ) → is_negative v ≡ false → n ≡ nat_abs v → numeral v ≡ decimal n
 unfolding numeral
 plus-text (pos k) n h e = rw e
 plus-text (negsuc k) n h e = absurd (true≢false h)
 
-pub numeral-pos : (n : ℕ) → numeral (pos n) ≡ decimal n
-unfolding numeral
-numeral-pos n = refl
-
 -- ---- how long they are
 
-pub decimal-short : (k n : ℕ) → length (decimal_in k n) ≤ k
+decimal_in-short : (k n : ℕ) → length (decimal_in k n) ≤ k
 unfolding decimal_in
-decimal-short zero n = omega arith
-decimal-short (suc k) n =
+decimal_in-short zero n = omega arith
+decimal_in-short (suc k) n =
     ltb-elim n 10
     (λ e h. rw e (omega arith))
-    (λ e h. let a = decimal-short k (n / 10) in rw e (simp length-append (omega arith)))
+    (λ e h. let a = decimal_in-short k (n / 10) in rw e (simp length-append (omega arith)))
 
-pub numeral-short : (v : ℤ) → length (numeral v) ≤ 21
+pub decimal_short : (n : ℕ) → length (decimal n) ≤ 20
+decimal_short n = decimal_in-short 20 n
+
+pub numeral_short : (v : ℤ) → length (numeral v) ≤ 21
 unfolding numeral
-numeral-short (pos n) = let a = decimal-short 20 n in omega arith
-numeral-short (negsuc n) = let a = decimal-short 20 (suc n) in omega arith
+numeral_short (pos n) = let a = decimal_short n in omega arith
+numeral_short (negsuc n) = let a = decimal_short (suc n) in omega arith
+
+-- for a function that puts numbers behind one another: `#[tactic(auto, using(printing::proofs::Laws::texts))]`
+pub ruleset texts = (common_steps, decimal_short, numeral_short)

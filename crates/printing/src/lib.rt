@@ -1,58 +1,8 @@
-// Bytes and decimal numbers as text. Each function puts a text behind the first `at` bytes of a buffer and answers where the text ends; the
-// bytes behind it are kept.
+// Bytes and decimal numbers put behind one another, as a text of fixed room.
 #![tactic(auto)]
 
-ghost use Rattle.std.specs.Prelude.{◌≡◌, [], ◌∷◌, ◌++◌, ◌+◌, ◌≤◌, length, take, drop};
-ghost use Rattle.printing.specs.Decimal.{decimal, numeral};
+pub mod number;
+pub mod text;
 
-pub fn put_byte(out: &mut [u8], at: usize, b: u8) -> usize
-    requires { at + 1 ≤ length out.old }
-    ensures out_after { take result out.new ≡ take at out.old ++ (b ∷ []) }
-    ensures value { result ≡ at + 1 }
-    ensures out_unchanged { drop result out.new ≡ drop result out.old }
-{
-    out[at] = b;
-    at + 1
-}
-
-pub fn put(out: &mut [u8], at: usize, s: &[u8]) -> usize
-    requires { at + length s.now ≤ length out.old }
-    ensures out_after { take result out.new ≡ take at out.old ++ s.now }
-    ensures value { result ≡ at + length s.now }
-    ensures out_unchanged { drop result out.new ≡ drop result out.old }
-{
-    let mut k = at;
-    let mut i: usize = 0;
-    while i < s.len() {
-        let b = s[i];
-        k = put_byte(out, k, b);
-        i += 1;
-    }
-    k
-}
-
-pub fn put_decimal(out: &mut [u8], at: usize, n: u64) -> usize
-    requires { at + length (decimal n) ≤ length out.old }
-    ensures out_after { take result out.new ≡ take at out.old ++ decimal n }
-    ensures value { result ≡ at + length (decimal n) }
-    ensures out_unchanged { drop result out.new ≡ drop result out.old }
-{
-    let mut text = [0u8; 20];
-    let k = io::decimal(n, &mut text);
-    put(out, at, &text[..k])
-}
-
-// A number, after a minus where it is negative.
-pub fn put_numeral(out: &mut [u8], at: usize, v: i64) -> usize
-    requires { at + length (numeral v) ≤ length out.old }
-    ensures out_after { take result out.new ≡ take at out.old ++ numeral v }
-    ensures value { result ≡ at + length (numeral v) }
-    ensures out_unchanged { drop result out.new ≡ drop result out.old }
-{
-    let n = word::magnitude(v);
-    if word::lt(v, 0) {
-        let i = put_byte(out, at, 45);
-        return put_decimal(out, i, n);
-    }
-    put_decimal(out, at, n)
-}
+pub use number::Number;
+pub use text::Text;

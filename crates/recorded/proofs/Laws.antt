@@ -1,52 +1,32 @@
--- Two lists are the same exactly where the definition's test says so. Assumes nothing.
-use mathlib.Core.Path.{◌≡◌, refl, sym, ap, ap₂, ◌∙◌}
-use mathlib.Core.Bool.{Bool, true, false, true≢false, ◌&&◌}
-use mathlib.Core.List.{List, [], ◌∷◌}
-use Prim.Native.Nat.{ℕ}
-use lib.Dec.{eqb}
-use lib.IntN.{ℤ, pos, negsuc}
-use borrow.Author.Tests.{eqb-true, eq-eqb}
-use Rattle.definition.specs.Word.{eq_z}
-use Rattle.recorded.specs.Compare.{same_by}
+-- A comparison of machines finds nothing exactly where they are the same. Assumes nothing.
+use Rattle.std.proofs.Common.{◌≡◌, refl, sym, ap, Bool, true, false, true≢false, ℕ, nat_eq, List, Ok}
+use Rattle.std.specs.Bool.{Decides}
+use Rattle.std.specs.Cmp.Rules.{signed_items}
+use Rattle.std.proofs.lemmas.Bool.Decides.{Decides-eqb}
+use Rattle.std.proofs.lemmas.Slice.Eq.{slice_eq-Decides}
+use lib.Pointwise.{pointwise}
+use Rattle.recorded.specs.declared.compare.Fault.{Fault}
+use Rattle.recorded.specs.declared.machine.Machine.{Machine}
+use Rattle.recorded.specs.Compare.{Verdict, Exactly, unless, left_fault}
 
-both : (a b : Bool) → (a && b) ≡ true → (a ≡ true) × (b ≡ true)
-both true b e = (refl, e)
-both false b e = absurd (true≢false (sym e))
+-- the comparison of a part, and what is found after it
+and_exactly : {P Q : Type 0} (b : Bool) (f : Fault) (r : Verdict) → Decides b P → Exactly Q r → Exactly (P × Q) (unless b f r)
+and_exactly true f r d x = ((λ e. (d.0 refl, x.0 e)), λ p. x.1 p.1)
+and_exactly false f r d x = ((λ e. absurd (cc)), λ p. absurd (true≢false (sym (d.1 p.0))))
 
-module _ {A : Type 0} (eq : A → A → Bool) (sound : (x y : A) → eq x y ≡ true → x ≡ y) (whole : (x : A) → eq x x ≡ true) where
-  same-sound : (l m : List A) → same_by eq l m ≡ true → l ≡ m
-  unfolding same_by
-  same-sound [] [] e = refl
-  same-sound [] (y ∷ m) e = absurd (true≢false (sym e))
-  same-sound (x ∷ l) [] e = absurd (true≢false (sym e))
-  same-sound (x ∷ l) (y ∷ m) e = let p = both (eq x y) (same_by eq l m) e in
-      ap₂ ◌∷◌ (sound x y p.0) (same-sound l m p.1)
+last_exactly : {P : Type 0} (b : Bool) (f : Fault) → Decides b P → Exactly P (unless b f (Ok tt))
+last_exactly true f d = ((λ e. d.0 refl), λ p. refl)
+last_exactly false f d = ((λ e. absurd (cc)), λ p. absurd (true≢false (sym (d.1 p))))
 
-  same_whole : (l : List A) → same_by eq l l ≡ true
-  unfolding same_by
-  same_whole [] = refl
-  same_whole (x ∷ l) = rw (whole x) (same_whole l)
+bytes : (xs ys : List ℕ) → Decides (pointwise nat_eq xs ys) (xs ≡ ys)
+bytes xs ys = slice_eq-Decides Decides-eqb xs ys (pointwise nat_eq xs ys) refl
 
-  -- the test, where it was made
-  pub same_true : (l m : List A) → l ≡ m → same_by eq l m ≡ true
-  same_true l m e = rw e (same_whole m)
+pub left_exactly : (m d : Machine) {r : Verdict} → r ≡ left_fault m d → Exactly (m ≡ d) r
+unfolding left_fault
+left_exactly m d e = rw e (both.0, both.1)
+  where
+    parts : Exactly ((m.row ≡ d.row) × ((m.cells ≡ d.cells) × ((m.queue ≡ d.queue) × ((m.output ≡ d.output) × (m.buffer ≡ d.buffer))))) (left_fault m d)
+    parts = and_exactly _ _ _ (signed_items m.row d.row) (and_exactly _ _ _ (signed_items m.cells d.cells) (and_exactly _ _ _ (bytes m.queue d.queue) (and_exactly _ _ _ (bytes m.output d.output) (last_exactly _ _ (bytes m.buffer d.buffer)))))
 
-  pub same_false : (l m : List A) (b : Bool) → b ≡ false → (l ≡ m → b ≡ true) → same_by eq l m ≡ false
-  same_false l m b f h = by-test (same_by eq l m) refl
-    where
-      by-test : (t : Bool) → same_by eq l m ≡ t → same_by eq l m ≡ false
-      by-test true e = absurd (true≢false (sym (h (same-sound l m e)) ∙ f))
-      by-test false e = e
-
-pub words-sound : (x y : ℤ) → eq_z x y ≡ true → x ≡ y
-words-sound (pos a) (pos b) e = ap pos (eqb-true a b e)
-words-sound (pos a) (negsuc b) e = absurd (true≢false (sym e))
-words-sound (negsuc a) (pos b) e = absurd (true≢false (sym e))
-words-sound (negsuc a) (negsuc b) e = ap negsuc (eqb-true a b e)
-
-pub words-whole : (x : ℤ) → eq_z x x ≡ true
-words-whole (pos a) = eq-eqb a a refl
-words-whole (negsuc a) = eq-eqb a a refl
-
-pub bytes_whole : (x : ℕ) → eqb x x ≡ true
-bytes_whole x = eq-eqb x x refl
+    both : Exactly (m ≡ d) (left_fault m d)
+    both = ((λ h. let p = parts.0 h in λ i. record { cells = p.1.0 i; queue = p.1.1.0 i; output = p.1.1.1.0 i; row = p.0 i; buffer = p.1.1.1.1 i }), λ h. parts.1 (ap (λ (x : Machine). x.row) h, (ap (λ (x : Machine). x.cells) h, (ap (λ (x : Machine). x.queue) h, (ap (λ (x : Machine). x.output) h, ap (λ (x : Machine). x.buffer) h)))))

@@ -1,40 +1,64 @@
 -- What differs first, and that a comparison finds nothing exactly where the two are the same.
-use Rattle.std.specs.Prelude.{◌≡◌, Bool, true, false, cond, ◌&&◌, List, [], ◌∷◌, ℕ, eqb}
-use Rattle.definition.specs.Word.{eq_z}
-use Rattle.definition.specs.Calls.{Lent}
+use Rattle.std.specs.Prelude.{◌≡◌, Bool, cond, ℕ, eqb, nat_eq, Option, Some, None, Result, Ok, Err}
+use Rattle.std.specs.Ordering.{int_eq}
+use lib.Pointwise.{pointwise}
+use Rattle.definition.specs.declared.Done.{Done}
+use Rattle.definition.specs.declared.Drained.{Drained}
+use Rattle.definition.specs.declared.Raised.{Raised}
+use Rattle.definition.specs.declared.Ran.{Ran}
 use Rattle.recorded.specs.declared.compare.Answer.{Answer}
 use Rattle.recorded.specs.declared.compare.Fault.{Fault}
 use Rattle.recorded.specs.declared.compare.Fault.TheVariants as F
+use Rattle.recorded.specs.declared.machine.Machine.{Machine}
 
-abbrev pub Exactly : Type 0 → Fault → Type 0
-Exactly Same f = (f ≡ F.Nothing → Same) × (Same → f ≡ F.Nothing)
+-- Nothing differs, or this does.
+abbrev pub Verdict : Type 0
+Verdict = Result (Unit {0}) Fault
 
--- Whether two lists are the same, by a test of their elements.
-unfoldable pub same_by : {A : Type 0} → (A → A → Bool) → List A → List A → Bool
-same_by eq [] [] = true
-same_by eq [] (y ∷ m) = false
-same_by eq (x ∷ l) [] = false
-same_by eq (x ∷ l) (y ∷ m) = eq x y && same_by eq l m
+abbrev pub Exactly : Type 0 → Verdict → Type 0
+Exactly Same r = (r ≡ Ok tt → Same) × (Same → r ≡ Ok tt)
 
 -- The fault, unless the two are the same; then what is found after.
-abbrev pub unless : Bool → Fault → Fault → Fault
-unless same f after = cond same after f
+abbrev pub unless : Bool → Fault → Verdict → Verdict
+unless same f after = cond same after (Err f)
+
+-- What differs, if something does.
+abbrev pub fault_of : Verdict → Option Fault
+fault_of (Ok x) = None
+fault_of (Err f) = Some f
+
+-- refusal, its place, stop, detail, count and empty reads
+abbrev pub answer : ℕ → ℕ → ℕ → ℕ → ℕ → ℕ → Answer
+answer r p s d n e = record { refusal = r; place = p; stop = s; detail = d; count = n; empty = e }
+
+-- What each call answers; the numbers that it does not give are 0.
+abbrev pub of_done : Done → Answer
+of_done x = answer x.refusal x.place 0 0 0 0
+
+abbrev pub of_drained : Drained → Answer
+of_drained x = answer x.refusal x.place 0 0 x.count 0
+
+abbrev pub of_raised : Raised → Answer
+of_raised x = answer x.refusal x.place x.stop x.detail 0 0
+
+abbrev pub of_ran : Ran → Answer
+of_ran x = answer x.refusal x.place x.stop x.detail x.steps x.empty
 
 -- "Lines 10 to 14 [...] compare its answer": in the order refusal, its place, stop, detail, count, empty reads.
-unfoldable pub answer_fault : Answer → Answer → Fault
+unfoldable pub answer_fault : Answer → Answer → Verdict
 answer_fault got due =
     unless (eqb got.refusal due.refusal) F.Refusal (
     unless (eqb got.place due.place) F.Place (
     unless (eqb got.stop due.stop) F.Stop (
     unless (eqb got.detail due.detail) F.Detail (
     unless (eqb got.count due.count) F.Count (
-    unless (eqb got.empty due.empty) F.Empty F.Nothing)))))
+    unless (eqb got.empty due.empty) F.Empty (Ok tt))))))
 
 -- "Line 29 compares the two in every cell, every number of the row and every byte": in the order row, cells, queue, output record, buffer.
-unfoldable pub left_fault : Lent → Lent → List ℕ → List ℕ → Fault
-left_fault machine due buffer dueBuffer =
-    unless (same_by eq_z machine.row due.row) F.Row (
-    unless (same_by eq_z machine.cells due.cells) F.Cells (
-    unless (same_by eqb machine.queue due.queue) F.Queue (
-    unless (same_by eqb machine.output due.output) F.Output (
-    unless (same_by eqb buffer dueBuffer) F.Buffer F.Nothing))))
+unfoldable pub left_fault : Machine → Machine → Verdict
+left_fault machine due =
+    unless (pointwise int_eq machine.row due.row) F.Row (
+    unless (pointwise int_eq machine.cells due.cells) F.Cells (
+    unless (pointwise nat_eq machine.queue due.queue) F.Queue (
+    unless (pointwise nat_eq machine.output due.output) F.Output (
+    unless (pointwise nat_eq machine.buffer due.buffer) F.Buffer (Ok tt)))))

@@ -1,3 +1,5 @@
 pub mod Compare
+pub mod Length
+pub mod Machine
 pub mod Place
 pub mod Reader

@@ -1,12 +1,12 @@
-// What a call answered and left, against the list.
-ghost use Rattle.std.specs.Prelude.{◌≡◌};
-ghost use Rattle.definition.specs.Calls.{lent};
-ghost use Rattle.recorded.specs.Compare.{Exactly, answer_fault, left_fault};
+// What a call answered, against the list.
+ghost use Rattle.std.specs.Prelude.{◌≡◌, true};
+ghost use Rattle.recorded.specs.Compare.{Exactly, unless, answer_fault, of_done, of_drained, of_raised, of_ran};
+
+use definition::{Done, Drained, Raised, Ran};
 
 // What is not as the list says.
-#[derive(Clone, Copy)]
+#[derive(Clone, Copy, PartialEq, Eq)]
 pub enum Fault {
-    Nothing,
     // The list breaks its form.
     Text,
     Order,
@@ -27,8 +27,9 @@ pub enum Fault {
     Buffer,
 }
 
-// Numbers that a call does not give are 0; count is steps or drained bytes, empty the words that a run took from empty cells.
-#[derive(Clone, Copy)]
+// Numbers as the list holds them and the C interface answers them, so no enums. Those that a call does not give are 0; count is steps or drained
+// bytes, empty the words that a run took from empty cells.
+#[derive(Clone, Copy, Default, PartialEq, Eq)]
 pub struct Answer {
     pub refusal: u64,
     pub place: u64,
@@ -38,61 +39,80 @@ pub struct Answer {
     pub empty: u64,
 }
 
-pub fn answers(got: Answer, due: Answer) -> Fault
-    ensures exactly { Exactly (got ≡ due) result }
-    ensures value { result ≡ answer_fault got due }
+// The fault, unless what it speaks of is the same.
+pub(crate) fn same(is_same: bool, fault: Fault) -> Result<(), Fault>
+    ensures { result ≡ unless is_same fault (Ok tt) }
 {
-    if got.refusal != due.refusal {
-        return Fault::Refusal;
-    }
-    if got.place != due.place {
-        return Fault::Place;
-    }
-    if got.stop != due.stop {
-        return Fault::Stop;
-    }
-    if got.detail != due.detail {
-        return Fault::Detail;
-    }
-    if got.count != due.count {
-        return Fault::Count;
-    }
-    if got.empty != due.empty {
-        return Fault::Empty;
-    }
-    Fault::Nothing
+    if is_same { Ok(()) } else { Err(fault) }
 }
 
-// The numbers and bytes that a call left.
-pub fn left(
-    cells: &[i64],
-    due_cells: &[i64],
-    queue: &[u8],
-    due_queue: &[u8],
-    output: &[u8],
-    due_output: &[u8],
-    row: &[i64],
-    due_row: &[i64],
-    buffer: &[u8],
-    due_buffer: &[u8],
-) -> Fault
-    ensures exactly { Exactly ((cells.now ≡ due_cells.now) × ((queue.now ≡ due_queue.now) × ((output.now ≡ due_output.now) × ((row.now ≡ due_row.now) × (buffer.now ≡ due_buffer.now))))) result }
-    ensures value { result ≡ left_fault (lent cells.now queue.now output.now row.now) (lent due_cells.now due_queue.now due_output.now due_row.now) buffer.now due_buffer.now }
-{
-    if !super::same::same_numbers(row, due_row) {
-        return Fault::Row;
+impl Answer {
+    // What differs first from the answer that is due.
+    #[tactic(auto, unfolding(crate::specs::Compare::answer_fault))]
+    pub fn compare(self, due: Answer) -> Result<(), Fault>
+        ensures exactly { Exactly (self ≡ due) result }
+        ensures value { result ≡ answer_fault self due }
+    {
+        same(self.refusal == due.refusal, Fault::Refusal)?;
+        same(self.place == due.place, Fault::Place)?;
+        same(self.stop == due.stop, Fault::Stop)?;
+        same(self.detail == due.detail, Fault::Detail)?;
+        same(self.count == due.count, Fault::Count)?;
+        same(self.empty == due.empty, Fault::Empty)
     }
-    if !super::same::same_numbers(cells, due_cells) {
-        return Fault::Cells;
+}
+
+// What each call answers.
+impl From<Done> for Answer {
+    ghost from_gives = { λ d a. a ≡ of_done d };
+
+    fn from(d: Done) -> Answer {
+        Answer {
+            refusal: d.refusal,
+            place: d.place,
+            ..Answer::default()
+        }
     }
-    if !check::same(queue, due_queue) {
-        return Fault::Queue;
+}
+
+impl From<Drained> for Answer {
+    ghost from_gives = { λ d a. a ≡ of_drained d };
+
+    fn from(d: Drained) -> Answer {
+        Answer {
+            refusal: d.refusal,
+            place: d.place,
+            count: d.count,
+            ..Answer::default()
+        }
     }
-    if !check::same(output, due_output) {
-        return Fault::Output;
+}
+
+impl From<Raised> for Answer {
+    ghost from_gives = { λ r a. a ≡ of_raised r };
+
+    fn from(r: Raised) -> Answer {
+        Answer {
+            refusal: r.refusal,
+            place: r.place,
+            stop: r.stop,
+            detail: r.detail,
+            ..Answer::default()
+        }
     }
-    if !check::same(buffer, due_buffer) {
-        return Fault::Buffer;
+}
+
+impl From<Ran> for Answer {
+    ghost from_gives = { λ r a. a ≡ of_ran r };
+
+    fn from(r: Ran) -> Answer {
+        Answer {
+            refusal: r.refusal,
+            place: r.place,
+            stop: r.stop,
+            detail: r.detail,
+            count: r.steps,
+            empty: r.empty,
+        }
     }
-    Fault::Nothing
 }

@@ -1,45 +1,56 @@
 -- "How to replay": the lines that call, and what every byte of the list makes of the replay (host/recorded/FORMAT.md).
-use Rattle.std.specs.Prelude.{cond, ◌&&◌, ℕ, ltb, eqb, ℤ, pos, length, take, drop, replicate}
-use mathlib.Core.List.{List, ◌++◌, foldl}
-use Rattle.std.specs.Int.Signed.{lt_z}
-use Rattle.definition.specs.Constants.{ROW}
+use Rattle.std.specs.Prelude.{cond, ℕ, ℤ, pos, int_lt, length, take, drop, replicate, List, ◌++◌, Option, Some, None, Result, Ok, Err}
+use mathlib.Core.List.{foldl}
 use Rattle.definition.specs.Word.{bits}
 use Rattle.definition.specs.declared.Done.{Done}
 use Rattle.definition.specs.declared.Drained.{Drained}
 use Rattle.definition.specs.declared.Ran.{Ran}
 use Rattle.definition.specs.Calls.{Called, called, Lent, lent, run_call, deliver, drain, raise, set_register}
 use Rattle.recorded.specs.declared.compare.Answer.{Answer}
+use Rattle.recorded.specs.declared.compare.Fault.{Fault}
 use Rattle.recorded.specs.declared.compare.Fault.TheVariants as F
+use Rattle.recorded.specs.declared.length.Lengths.{Lengths}
+use Rattle.recorded.specs.declared.machine.Machine.{Machine}
+use Rattle.recorded.specs.declared.reader.Broken.{Broken}
 use Rattle.recorded.specs.declared.reader.Line.{Line}
 use Rattle.recorded.specs.declared.reader.Reader.{Reader}
-use Rattle.recorded.specs.declared.reader.Fed.{Fed}
-use Rattle.recorded.specs.declared.reader.Fed.TheVariants as Fd
-use Rattle.recorded.specs.Compare.{answer_fault}
+use Rattle.recorded.specs.Compare.{answer, of_done, of_drained, of_raised, of_ran, fault_of, answer_fault}
+use Rattle.recorded.specs.Length.{length_of, is_length}
+use Rattle.recorded.specs.Machine.{no_machine, lent_of, with_lent, with_cells, with_queue, with_row, with_buffer, emptied}
 use Rattle.recorded.specs.Reader.{no_line, fed}
+use Rattle.recorded_cases.specs.declared.kind.Call.{Call}
+use Rattle.recorded_cases.specs.declared.kind.Call.TheVariants as C
+use Rattle.recorded_cases.specs.declared.kind.Kind.{Kind}
+use Rattle.recorded_cases.specs.declared.kind.Kind.TheVariants as K
+use Rattle.recorded_cases.specs.declared.lines.Replay.{Replay}
+use Rattle.recorded_cases.specs.declared.state.Phase.TheVariants as P
 use Rattle.recorded_cases.specs.declared.state.State.{State}
-use Rattle.recorded_cases.specs.Case.{started, fails, with_fault, next_line, one_more, broken_line, text_end, kind_of, size_of, other_line, opened, byte_line, Both, both, before_line, due, after_line, close_line}
+use Rattle.recorded_cases.specs.State.{lengths, started, fails, with_fault, next_line, one_more, broken_line, text_end}
+use Rattle.recorded_cases.specs.Kind.{due_kind}
+use Rattle.recorded_cases.specs.Case.{first_line, last_line, empty_line, opened, replay, with_state, byte_line, before_line, after_line, close_line}
 use Rattle.recorded_cases.specs.Verdict.{verdict_text}
+use Rattle.recorded_calls.specs.declared.act.Reading.{Reading}
 
 -- ---- the calls
-
--- refusal, its place, stop, detail, count and empty reads; those that a call does not give are 0
-abbrev pub run_answer : ℕ → ℕ → ℕ → ℕ → ℕ → ℕ → Answer
-run_answer r p s d n e = record { refusal = r; place = p; stop = s; detail = d; count = n; empty = e }
-
-abbrev pub answer : ℕ → ℕ → ℕ → ℕ → ℕ → Answer
-answer r p s d n = run_answer r p s d n 0
 
 -- After a call with a drain buffer of n bytes: the lines "after" may come, and the answers are compared.
 abbrev pub after_call : State → ℕ → Answer → Answer → State
 after_call s n got wanted =
-    record { phase = 4; queue = s.queue; output = s.output; bytes = 0; buffer = n; empty = 0; cases = s.cases; calls = one_more s.calls; lines = s.lines; fault = answer_fault got wanted }
+    record { phase = P.After; lengths = lengths s.lengths.queue s.lengths.output 0 n; empty = 0; cases = s.cases; calls = one_more s.calls; lines = s.lines; fault = fault_of (answer_fault got wanted) }
+
+-- What a call on the machine left of it, and its answer held to the due one. Its drain buffer has n bytes.
+abbrev pub call_done : Replay → ℕ → Machine → Answer → Answer → Replay
+call_done w n m got wanted = replay (after_call w.state n got wanted) m w.due w.bytes
+
+abbrev pub out_of_range : Replay → Replay
+out_of_range w = with_state w (with_fault w.state F.Number)
 
 -- The calls on the case's queue and output record, which are the fronts of the arrays; the ends stay as they were.
-abbrev pub ran_in : ℕ → ℕ → ℕ → Lent → Called Ran Lent
-ran_in budget q o m =
-    let x = run_call budget (lent m.cells (take q m.queue) (take o m.output) m.row) in
+abbrev pub ran_in : ℕ → Lengths → Lent → Called Ran Lent
+ran_in budget n m =
+    let x = run_call budget (lent m.cells (take n.queue m.queue) (take n.output m.output) m.row) in
     let u = x.left in
-    called x.answer (lent u.cells (u.queue ++ drop q m.queue) (u.output ++ drop o m.output) u.row)
+    called x.answer (lent u.cells (u.queue ++ drop n.queue m.queue) (u.output ++ drop n.output m.output) u.row)
 
 abbrev pub delivered_in : ℕ → List ℕ → List ℤ → List ℕ → Called Done (List ℕ × List ℤ)
 delivered_in q queue row bytes =
@@ -52,151 +63,104 @@ drained_in n output row buffer =
     called x.answer (x.left.0, x.left.1 ++ drop n buffer)
 
 -- "call run; it is not refused, and answers so"
-unfoldable pub run_line : State → Line → Lent → State × Lent
-run_line s l m =
-    let x = ran_in (bits l.a) s.queue s.output m in
-    let r = x.answer in
-    (after_call s 0 (run_answer r.refusal r.place r.stop r.detail r.steps r.empty) (run_answer 0 0 (bits l.b) (bits l.c) (bits l.d) s.empty), x.left)
+unfoldable pub run_line : Line → Replay → Replay
+run_line l w =
+    let x = ran_in (bits l.a) w.state.lengths (lent_of w.machine) in
+    call_done w 0 (with_lent w.machine x.left) (of_ran x.answer) (answer 0 0 (bits l.b) (bits l.c) (bits l.d) w.state.empty)
 
 -- "call deliver with the bytes of the lines 6 before it"
-unfoldable pub deliver_line : State → Line → List ℕ → List ℕ → List ℤ → State × (List ℕ × List ℤ)
-deliver_line s l bytes queue row =
-    let x = delivered_in s.queue queue row (take s.bytes bytes) in
+unfoldable pub deliver_line : Line → Replay → Replay
+deliver_line l w =
+    let m = w.machine in
+    let n = w.state.lengths in
+    let x = delivered_in n.queue m.queue m.row (take n.bytes w.bytes) in
     cond
-    (eqb (size_of l.a) s.bytes)
-    (after_call s 0 (answer x.answer.refusal x.answer.place 0 0 0) (answer (bits l.b) 0 0 0 0), x.left)
-    (with_fault s F.Number, (queue, row))
+    (is_length l.a n.bytes)
+    (call_done w 0 (with_row (with_queue m x.left.0) x.left.1) (of_done x.answer) (answer (bits l.b) 0 0 0 0 0))
+    (out_of_range w)
 
 -- "call drain; every byte of the buffer is 0 before"
-unfoldable pub drain_line : State → Line → List ℕ → List ℤ → List ℕ → List ℕ → State × (List ℤ × (List ℕ × List ℕ))
-drain_line s l output row buffer wanted =
-    let n = size_of l.a in
-    let zeros = replicate {A = ℕ} (length buffer) 0 in
-    let x = drained_in n (take s.output output) row zeros in
-    cond
-    (ltb 128 n)
-    (with_fault s F.Number, (row, (buffer, wanted)))
-    (after_call s n (answer x.answer.refusal x.answer.place 0 0 x.answer.count) (answer (bits l.b) 0 0 0 (bits l.c)), (x.left.0, (x.left.1, replicate {A = ℕ} (length wanted) 0)))
+abbrev pub zeroed : Machine → Machine
+zeroed m = with_buffer m (replicate (length m.buffer) 0)
+
+abbrev pub drain_with : Line → Replay → Result ℕ Fault → Replay
+drain_with l w (Err f) = with_state w (with_fault w.state f)
+drain_with l w (Ok n) =
+    let m = zeroed w.machine in
+    let x = drained_in n (take w.state.lengths.output m.output) m.row m.buffer in
+    call_done (replay w.state m (zeroed w.due) w.bytes) n (with_buffer (with_row m x.left.0) x.left.1) (of_drained x.answer) (answer (bits l.b) 0 0 0 (bits l.c) 0)
+
+unfoldable pub drain_line : Line → Replay → Replay
+drain_line l w = drain_with l w (length_of 128 l.a)
 
 -- "call raise": "After 13, stop 0 means that the exception was entered."
-unfoldable pub raise_line : State → Line → List ℤ → List ℤ → State × (List ℤ × List ℤ)
-raise_line s l cells row =
-    let x = raise cells row (bits l.a) in
-    let r = x.answer in
+unfoldable pub raise_line : Line → Replay → Replay
+raise_line l w =
+    let m = w.machine in
+    let x = raise m.cells m.row (bits l.a) in
     cond
-    (lt_z l.a (pos 0))
-    (with_fault s F.Number, (cells, row))
-    (after_call s 0 (answer r.refusal r.place r.stop r.detail 0) (answer (bits l.b) 0 (bits l.c) (bits l.d) 0), x.left)
+    (int_lt l.a (pos 0))
+    (out_of_range w)
+    (call_done w 0 (with_row (with_cells m x.left.0) x.left.1) (of_raised x.answer) (answer (bits l.b) 0 (bits l.c) (bits l.d) 0 0))
 
 -- "call set register"
-unfoldable pub set_line : State → Line → List ℤ → State × List ℤ
-set_line s l row =
-    let x = set_register row (bits l.a) l.b in
+unfoldable pub set_line : Line → Replay → Replay
+set_line l w =
+    let x = set_register w.machine.row (bits l.a) l.b in
     cond
-    (lt_z l.a (pos 0))
-    (with_fault s F.Number, row)
-    (after_call s 0 (answer x.answer.refusal x.answer.place 0 0 0) (answer (bits l.c) 0 0 0 0), x.left)
-
--- The state, the machine and the two drain buffers, the machine's and the one that is due.
-pub record Calling : Type 0 where
-  pub state : State
-  pub machine : Lent
-  pub buffer : List ℕ
-  pub wanted : List ℕ
-
-abbrev pub calling : State → Lent → List ℕ → List ℕ → Calling
-calling s m b w = record { state = s; machine = m; buffer = b; wanted = w }
+    (int_lt l.a (pos 0))
+    (out_of_range w)
+    (call_done w 0 (with_row w.machine x.left) (of_done x.answer) (answer (bits l.c) 0 0 0 0 0))
 
 -- "Lines 10 to 14 make the call on the first and compare its answer."
-unfoldable pub call_line : ℕ → Line → List ℕ → Calling → Calling
-call_line k l bytes w =
-    let s = w.state in
-    let m = w.machine in
-    let b = w.buffer in
-    let u = w.wanted in
-    let run = run_line s l m in
-    let put = deliver_line s l bytes m.queue m.row in
-    let got = drain_line s l m.output m.row b u in
-    let up = raise_line s l m.cells m.row in
-    let reg = set_line s l m.row in
-    cond (eqb k 10) (calling run.0 run.1 b u) (
-    cond (eqb k 11) (calling put.0 (lent m.cells put.1.0 m.output put.1.1) b u) (
-    cond (eqb k 12) (calling got.0 (lent m.cells m.queue m.output got.1.0) got.1.1.0 got.1.1.1) (
-    cond (eqb k 13) (calling up.0 (lent up.1.0 m.queue m.output up.1.1) b u)
-    (calling reg.0 (lent m.cells m.queue m.output reg.1) b u))))
+abbrev pub call_line : Call → Line → Replay → Replay
+call_line C.Run l w = run_line l w
+call_line C.Deliver l w = deliver_line l w
+call_line C.Drain l w = drain_line l w
+call_line C.Raise l w = raise_line l w
+call_line C.SetRegister l w = set_line l w
 
 -- "opens a case: all cells empty, all bytes 0, the row's 20 numbers 0"
-abbrev pub emptied : Lent → Lent
-emptied m =
-    lent (replicate (length m.cells) (pos 0)) (replicate (length m.queue) 0) (replicate (length m.output) 0) (replicate (length m.row) (pos 0))
-
-unfoldable pub open_line : Line → Both → Both
-open_line l w = both (opened w.state l) (emptied w.machine) (emptied w.due)
+unfoldable pub open_line : Line → Replay → Replay
+open_line l w = replay (opened w.state l) (emptied w.machine) (emptied w.due) w.bytes
 
 -- ---- the replay
 
--- "Keep two machines, the one under test and the one that is due."
-pub record Replay : Type 0 where
-  pub state : State
-  pub machine : Lent
-  pub due : Lent
-  pub bytes : List ℕ
-  pub buffer : List ℕ
-  pub wanted : List ℕ
-
-abbrev pub replay : State → Lent → Lent → List ℕ → List ℕ → List ℕ → Replay
-replay s m d t b w = record { state = s; machine = m; due = d; bytes = t; buffer = b; wanted = w }
-
 -- A line of this kind, done.
-unfoldable pub kind_done : ℕ → Line → Replay → Replay
-kind_done k l w =
-    let s = w.state in
-    let m = w.machine in
-    let d = w.due in
-    let b = w.buffer in
-    let u = w.wanted in
-    let opens = open_line l (both s m d) in
-    let before = before_line k l (both s m d) in
-    let byte = byte_line s l w.bytes in
-    let call = call_line k l w.bytes (calling s m b u) in
-    let after = after_line k l (due s d u) in
-    cond (eqb k 1) (replay opens.state opens.machine opens.due w.bytes b u) (
-    cond (ltb 1 k && ltb k 6) (replay before.state before.machine before.due w.bytes b u) (
-    cond (eqb k 6) (replay byte.0 m d byte.1 b u) (
-    cond (ltb 9 k && ltb k 15) (replay call.state call.machine d w.bytes call.buffer call.wanted) (
-    cond (ltb 19 k && ltb k 25) (replay after.state m after.due w.bytes b after.buffer) (
-    cond (eqb k 29) (replay (close_line s m d b u) m d w.bytes b u)
-    (replay (other_line s k l) m d w.bytes b u))))))
+unfoldable pub kind_done : Kind → Line → Replay → Replay
+kind_done K.First l w = with_state w (first_line w.state l)
+kind_done K.Case l w = open_line l w
+kind_done (K.Before p) l w = before_line p l w
+kind_done K.Byte l w = byte_line l w
+kind_done K.Empty l w = with_state w (empty_line w.state l)
+kind_done (K.Call c) l w = call_line c l w
+kind_done (K.After p) l w = after_line p l w
+kind_done K.Close l w = close_line w
+kind_done K.Last l w = with_state w (last_line w.state l)
 
-abbrev pub with_state : Replay → State → Replay
-with_state w s = replay s w.machine w.due w.bytes w.buffer w.wanted
+abbrev pub done_if_due : Result Kind Fault → Line → Replay → Replay
+done_if_due (Ok k) l w = kind_done k l w
+done_if_due (Err f) l w = with_state w (with_fault w.state f)
 
 -- A whole line: it is counted, and does what its kind asks if such a line may come.
-abbrev pub line_done : Line → Replay → Replay
-line_done l w = kind_done (kind_of w.state.phase l) l (with_state w (next_line w.state))
-
--- What was read of a line, and the replay so far.
-pub record Reading : Type 0 where
-  pub reader : Reader
-  pub replay : Replay
+unfoldable pub line_done : Line → Replay → Replay
+line_done l w = done_if_due (due_kind w.state.phase l) l (with_state w (next_line w.state))
 
 abbrev pub reading : Reader → Replay → Reading
 reading r w = record { reader = r; replay = w }
 
-unfoldable pub on_fed : Replay → Fed → Reading
-on_fed w (Fd.More r) = reading r w
-on_fed w (Fd.Whole l) = reading no_line (line_done l w)
-on_fed w Fd.Broken = reading no_line (with_state w (broken_line w.state))
+-- What the line makes of the replay that the byte ended, if it ended one.
+abbrev pub fed_done : Result (Option Line) Broken → Replay → Replay
+fed_done (Ok None) w = w
+fed_done (Ok (Some l)) w = line_done l w
+fed_done (Err e) w = with_state w (broken_line w.state)
 
 -- A byte of the list. After the first fault nothing more is done.
 unfoldable pub byte_taken : Reading → ℕ → Reading
-byte_taken r b = cond (fails r.replay.state.fault) r (on_fed r.replay (fed r.reader b))
-
-abbrev pub no_machine : Lent
-no_machine = lent (replicate 30000 (pos 0)) (replicate 256 0) (replicate 4096 0) (replicate ROW (pos 0))
+byte_taken r b = let x = fed r.reader b in cond (fails r.replay.state) r (reading x.0 (fed_done x.1 r.replay))
 
 abbrev pub opening : Reading
-opening = reading no_line (replay started no_machine no_machine (replicate 8 0) (replicate 128 0) (replicate 128 0))
+opening = reading no_line (replay started no_machine no_machine (replicate 8 0))
 
 -- Where the replay of a text ends.
 abbrev pub at_end : Reading → State

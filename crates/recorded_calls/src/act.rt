@@ -1,148 +1,62 @@
 // The list, byte by byte, on the machine and on what is due of it.
 ghost use Rattle.std.specs.Prelude.{◌≡◌};
-ghost use Rattle.definition.specs.Calls.{lent};
-ghost use Rattle.recorded_cases.specs.Room.{Fits};
-ghost use Rattle.recorded_calls.specs.Replay.{replay, kind_done, line_done, reading, byte_taken};
+ghost use Rattle.recorded_calls.specs.Replay.{kind_done, line_done, byte_taken};
 
-use recorded::ROW;
-use recorded::reader::{Fed, Line, Reader};
-use recorded_cases::lines;
-use recorded_cases::state::{State, broken_line, fails, next_line};
+use recorded::reader::{Broken, Line, Reader};
+use recorded_cases::kind::Kind;
+use recorded_cases::lines::Replay;
 
-// What was read of a line, and how far the replay is.
-#[derive(Clone, Copy)]
-pub struct Progress {
+// What was read of a line, and the replay so far.
+#[derive(Drop)]
+pub struct Reading {
     pub reader: Reader,
-    pub state: State,
+    pub replay: Replay,
 }
 
 // A line of this kind, done.
-fn act(
-    s: State,
-    kind: u32,
-    l: Line,
-    cells: &mut [i64; 30000],
-    due_cells: &mut [i64; 30000],
-    queue: &mut [u8; 256],
-    due_queue: &mut [u8; 256],
-    output: &mut [u8; 4096],
-    due_output: &mut [u8; 4096],
-    row: &mut [i64; ROW],
-    due_row: &mut [i64; ROW],
-    bytes: &mut [u8; 8],
-    buffer: &mut [u8; 128],
-    due_buffer: &mut [u8; 128],
-) -> State
-    requires { Fits s }
-    ensures { replay result (lent cells.new queue.new output.new row.new) (lent due_cells.new due_queue.new due_output.new due_row.new) bytes.new buffer.new due_buffer.new ≡ kind_done kind l (replay s (lent cells.old queue.old output.old row.old) (lent due_cells.old due_queue.old due_output.old due_row.old) bytes.old buffer.old due_buffer.old) }
+#[tactic(auto, unfolding(crate::specs::Replay::kind_done))]
+fn act(w: &mut Replay, kind: Kind, l: Line)
+    ensures { w.new ≡ kind_done kind l w.old }
 {
-    if kind == 1 {
-        return crate::open(
-            s, l, cells, due_cells, queue, due_queue, output, due_output, row, due_row,
-        );
+    match kind {
+        Kind::First => w.state.first(l),
+        Kind::Case => crate::open(w, l),
+        Kind::Before(part) => w.before(part, l),
+        Kind::Byte => w.byte_to_deliver(l),
+        Kind::Empty => w.state.empty(l),
+        Kind::Call(call) => crate::call(w, call, l),
+        Kind::After(part) => w.after(part, l),
+        Kind::Close => w.close(),
+        Kind::Last => w.state.last(l),
     }
-    if (1 < kind) & (kind < 6) {
-        return lines::before(
-            s, kind, l, cells, due_cells, queue, due_queue, output, due_output, row, due_row,
-        );
-    }
-    if kind == 6 {
-        return lines::byte_to_deliver(s, l, bytes);
-    }
-    if (9 < kind) & (kind < 15) {
-        return crate::call(
-            s, kind, l, cells, queue, output, row, bytes, buffer, due_buffer,
-        );
-    }
-    if (19 < kind) & (kind < 25) {
-        return lines::after(
-            s, kind, l, due_cells, due_queue, due_output, due_row, due_buffer,
-        );
-    }
-    if kind == 29 {
-        return lines::close(
-            s, cells, due_cells, queue, due_queue, output, due_output, row, due_row, buffer,
-            due_buffer,
-        );
-    }
-    lines::other(s, kind, l)
 }
 
 // A whole line: it is counted, and does what its kind asks.
-fn take_line(
-    s: State,
-    l: Line,
-    cells: &mut [i64; 30000],
-    due_cells: &mut [i64; 30000],
-    queue: &mut [u8; 256],
-    due_queue: &mut [u8; 256],
-    output: &mut [u8; 4096],
-    due_output: &mut [u8; 4096],
-    row: &mut [i64; ROW],
-    due_row: &mut [i64; ROW],
-    bytes: &mut [u8; 8],
-    buffer: &mut [u8; 128],
-    due_buffer: &mut [u8; 128],
-) -> State
-    requires { Fits s }
-    ensures { replay result (lent cells.new queue.new output.new row.new) (lent due_cells.new due_queue.new due_output.new due_row.new) bytes.new buffer.new due_buffer.new ≡ line_done l (replay s (lent cells.old queue.old output.old row.old) (lent due_cells.old due_queue.old due_output.old due_row.old) bytes.old buffer.old due_buffer.old) }
+#[tactic(auto, unfolding(crate::specs::Replay::line_done))]
+fn take_line(w: &mut Replay, l: Line)
+    ensures { w.new ≡ line_done l w.old }
 {
-    let kind = lines::kind_of(s.phase, l);
-    act(
-        next_line(s),
-        kind,
-        l,
-        cells,
-        due_cells,
-        queue,
-        due_queue,
-        output,
-        due_output,
-        row,
-        due_row,
-        bytes,
-        buffer,
-        due_buffer,
-    )
+    let kind = Kind::due(w.state.phase, l);
+    w.state.next_line();
+    match kind {
+        Ok(kind) => act(w, kind, l),
+        Err(fault) => w.state.fail(fault),
+    }
 }
 
-// A byte of the list. After the first fault nothing more is done.
-pub fn take_byte(
-    p: Progress,
-    byte: u8,
-    cells: &mut [i64; 30000],
-    due_cells: &mut [i64; 30000],
-    queue: &mut [u8; 256],
-    due_queue: &mut [u8; 256],
-    output: &mut [u8; 4096],
-    due_output: &mut [u8; 4096],
-    row: &mut [i64; ROW],
-    due_row: &mut [i64; ROW],
-    bytes: &mut [u8; 8],
-    buffer: &mut [u8; 128],
-    due_buffer: &mut [u8; 128],
-) -> Progress
-    requires { Fits p.state }
-    ensures { reading result.reader (replay result.state (lent cells.new queue.new output.new row.new) (lent due_cells.new due_queue.new due_output.new due_row.new) bytes.new buffer.new due_buffer.new) ≡ byte_taken (reading p.reader (replay p.state (lent cells.old queue.old output.old row.old) (lent due_cells.old due_queue.old due_output.old due_row.old) bytes.old buffer.old due_buffer.old)) byte }
-{
-    let s = p.state;
-    let fault = s.fault;
-    if fails(fault) {
-        return p;
-    }
-    let fed = recorded::reader::feed(p.reader, byte);
-    match fed {
-        Fed::More(reader) => Progress { reader, state: s },
-        Fed::Whole(l) => Progress {
-            reader: recorded::reader::at_start(),
-            state: take_line(
-                s, l, cells, due_cells, queue, due_queue, output, due_output, row, due_row, bytes,
-                buffer, due_buffer,
-            ),
-        },
-        Fed::Broken => Progress {
-            reader: recorded::reader::at_start(),
-            state: broken_line(s),
-        },
+impl Reading {
+    // A byte of the list. After the first fault nothing more is done.
+    #[tactic(auto, unfolding(crate::specs::Replay::byte_taken))]
+    pub fn take_byte(&mut self, byte: u8)
+        ensures { self.new ≡ byte_taken self.old byte }
+    {
+        if self.replay.state.fault.is_some() {
+            return;
+        }
+        match self.reader.feed(byte) {
+            Ok(None) => {}
+            Ok(Some(l)) => take_line(&mut self.replay, l),
+            Err(Broken) => self.replay.state.broken_line(),
+        }
     }
 }

@@ -1,3 +1,4 @@
 pub mod Case
-pub mod Room
+pub mod Kind
+pub mod State
 pub mod Verdict

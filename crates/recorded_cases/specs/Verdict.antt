@@ -1,14 +1,12 @@
 -- What the replay prints of where it ended. A text is a list of bytes; 10 is a line feed.
-use Rattle.std.specs.Prelude.{ℕ, cond, List, [], ◌∷◌, ◌++◌}
+use Rattle.std.specs.Prelude.{ℕ, List, [], ◌∷◌, ◌++◌, Option, Some, None}
 use Rattle.recorded.specs.declared.compare.Fault.{Fault}
 use Rattle.recorded.specs.declared.compare.Fault.TheVariants as F
 use Rattle.printing.specs.Decimal.{decimal}
 use Rattle.recorded_cases.specs.declared.state.State.{State}
-use Rattle.recorded_cases.specs.Case.{fails}
 
 -- The fault in words, the line's end with them.
-unfoldable pub fault_text : Fault → List ℕ
-fault_text F.Nothing = 110 ∷ 111 ∷ 116 ∷ 104 ∷ 105 ∷ 110 ∷ 103 ∷ 32 ∷ 100 ∷ 105 ∷ 102 ∷ 102 ∷ 101 ∷ 114 ∷ 115 ∷ 10 ∷ []
+abbrev pub fault_text : Fault → List ℕ
 fault_text F.Text = 116 ∷ 104 ∷ 101 ∷ 32 ∷ 108 ∷ 105 ∷ 110 ∷ 101 ∷ 32 ∷ 105 ∷ 115 ∷ 32 ∷ 110 ∷ 111 ∷ 116 ∷ 32 ∷ 102 ∷ 105 ∷ 118 ∷ 101 ∷ 32 ∷ 110 ∷ 117 ∷ 109 ∷ 98 ∷ 101 ∷ 114 ∷ 115 ∷ 10 ∷ []
 fault_text F.Order = 97 ∷ 32 ∷ 108 ∷ 105 ∷ 110 ∷ 101 ∷ 32 ∷ 111 ∷ 102 ∷ 32 ∷ 116 ∷ 104 ∷ 105 ∷ 115 ∷ 32 ∷ 107 ∷ 105 ∷ 110 ∷ 100 ∷ 32 ∷ 105 ∷ 115 ∷ 32 ∷ 110 ∷ 111 ∷ 116 ∷ 32 ∷ 100 ∷ 117 ∷ 101 ∷ 10 ∷ []
 fault_text F.Number = 97 ∷ 32 ∷ 110 ∷ 117 ∷ 109 ∷ 98 ∷ 101 ∷ 114 ∷ 32 ∷ 105 ∷ 115 ∷ 32 ∷ 111 ∷ 117 ∷ 116 ∷ 32 ∷ 111 ∷ 102 ∷ 32 ∷ 114 ∷ 97 ∷ 110 ∷ 103 ∷ 101 ∷ 10 ∷ []
@@ -47,13 +45,17 @@ abbrev pub calls_name : List ℕ
 calls_name = 32 ∷ 99 ∷ 97 ∷ 108 ∷ 108 ∷ 115 ∷ 44 ∷ 32 ∷ 48 ∷ 32 ∷ 100 ∷ 105 ∷ 102 ∷ 102 ∷ 101 ∷ 114 ∷ 10 ∷ []
 
 -- Where the list is not met: the case, the line and what differs first.
-unfoldable pub difference_text : State → List ℕ
-difference_text s =
-    case_name ++ (decimal s.cases ++ (line_name ++ (decimal s.lines ++ (colon ++ fault_text s.fault))))
+abbrev pub difference_text : State → Fault → List ℕ
+difference_text s f =
+    case_name ++ (decimal s.cases ++ (line_name ++ (decimal s.lines ++ (colon ++ fault_text f))))
 
 -- How many cases and calls the list held.
-unfoldable pub numbers_text : State → List ℕ
+abbrev pub numbers_text : State → List ℕ
 numbers_text s = decimal s.cases ++ (cases_name ++ (decimal s.calls ++ calls_name))
 
-unfoldable pub verdict_text : State → List ℕ
-verdict_text s = cond (fails s.fault) (difference_text s) (numbers_text s)
+abbrev pub found_text : State → Option Fault → List ℕ
+found_text s None = numbers_text s
+found_text s (Some f) = difference_text s f
+
+abbrev pub verdict_text : State → List ℕ
+verdict_text s = found_text s s.fault

@@ -1,165 +1,126 @@
-// registers.rs, and Computer::set_register of mod.rs. Registers go by value: what is refused leaves the caller's as they were.
+// registers.rs, and Computer::set_register of mod.rs, on registers changed in place: where a value is refused they are as they were.
 #![tactic(auto)]
 
 ghost use Rattle.std.specs.Prelude.{◌≡◌, ◌<◌};
 ghost use Rattle.definition.specs.Memory.{as_address};
-ghost use Rattle.definition.specs.Registers.{reg_at, get_reg, put_reg, put_pc, put_sp, put_sr, put_flag, supervisor, interrupt_enable, counted, assigned, refused};
+ghost use Rattle.definition.specs.Registers.{get_reg, put_reg, put_pc, put_sp, put_sr, put_flag, supervisor, interrupt_enable, counted};
 ghost use Rattle.definition.specs.Exec.{below};
 ghost use Rattle.registers.specs.Meaning.{settled};
 
-use definition::{Address, Cell, Error, Registers, Word};
+use definition::{Cell, Error, Reg, Registers, Word};
+use memory::Write;
 
-// The registers after an instruction that writes no cell. Where ok, `error` is a filler.
+// What a step has done to the core so far: the registers, and the one cell write that waits. The cells are lent beside it.
 #[derive(Clone, Copy)]
-pub struct Put {
-    pub ok: bool,
-    pub error: Error,
+pub struct Plan {
     pub s: Registers,
-}
-
-pub fn accept(s: Registers) -> Put
-    ensures { result ≡ settled s (assigned s) }
-{
-    Put {
-        ok: true,
-        error: Error::Reset,
-        s,
-    }
-}
-
-pub fn refuse(s: Registers, error: Error) -> Put
-    ensures { result ≡ settled s (refused error) }
-{
-    Put {
-        ok: false,
-        error,
-        s,
-    }
+    pub write: Option<Write>,
 }
 
 // StatusRegister::contains
-pub fn supervisor(s: Registers) -> bool
-    ensures { result ≡ supervisor s }
+#[tactic(auto, unfolding(definition::specs::Registers::supervisor))]
+pub fn supervisor(s: &Registers) -> bool
+    ensures { result ≡ supervisor s.now }
 {
     word::test_bit(s.sr, 9)
 }
 
-pub fn interrupt_enable(s: Registers) -> bool
-    ensures { result ≡ interrupt_enable s }
+#[tactic(auto, unfolding(definition::specs::Registers::interrupt_enable))]
+pub fn interrupt_enable(s: &Registers) -> bool
+    ensures { result ≡ interrupt_enable s.now }
 {
     word::test_bit(s.sr, 8)
 }
 
 // StatusRegister::set
-pub fn put_flag(s: Registers, k: u64, on: bool) -> Registers
+pub fn put_flag(s: &mut Registers, k: u64, on: bool)
     requires { k < 64 }
-    ensures { result ≡ put_flag k on s }
+    ensures { s.new ≡ put_flag k on s.old }
 {
-    let mut t = s;
-    t.sr = word::put_bit(s.sr, k, on);
-    t
+    s.sr = word::put_bit(s.sr, k, on);
 }
 
 // "sp 0 less 1 wraps to 4,294,967,295"
+#[tactic(auto, unfolding(definition::specs::Exec::below))]
 pub fn below(sp: u32) -> u32
     ensures { result ≡ below sp }
 {
-    if sp == 0 { 4294967295 } else { sp - 1 }
+    if sp == 0 { u32::MAX } else { sp - 1 }
 }
 
 // Registers::get
-pub fn get_reg(s: Registers, r: u32) -> Cell
-    ensures { result ≡ get_reg (reg_at r) s }
+#[tactic(auto, using(word::proofs::Laws::back), unfolding(definition::specs::Registers::get_reg))]
+pub fn get_reg(s: &Registers, r: Reg) -> Cell
+    ensures { result ≡ get_reg r s.now }
 {
     match r {
-        1 => s.b,
-        2 => memory::address_cell(s.pc),
-        3 => memory::address_cell(s.sp),
-        4 => memory::word_cell(s.sr),
-        _ => s.a,
+        Reg::A => s.a,
+        Reg::B => s.b,
+        Reg::PC => memory::address_cell(s.pc),
+        Reg::SP => memory::address_cell(s.sp),
+        Reg::SR => memory::word_cell(s.sr),
     }
 }
 
-// The registers once the word was taken: an empty cell's is counted, here alone.
-pub fn counted(s: Registers, w: Word) -> Registers
-    ensures { result ≡ counted w s }
+// The word is taken: an empty cell's is counted, here alone.
+#[tactic(auto, unfolding(definition::specs::Registers::counted))]
+pub fn count(s: &mut Registers, w: Word)
+    ensures { s.new ≡ counted w s.old }
 {
-    match w {
-        Word::Empty => {
-            let mut t = s;
-            t.empties = word::total(s.empties, 1);
-            t
-        }
-        Word::Is(_) => s,
-        Word::NotWord => s,
+    if let Word::Empty = w {
+        s.empties = word::total(s.empties, 1);
     }
 }
 
-fn put_pc(s: Registers, w: Word) -> Put
-    ensures { result ≡ settled s (put_pc (as_address w) (counted w s)) }
+#[tactic(auto, unfolding(definition::specs::Registers::put_pc, definition::specs::Registers::counted))]
+fn put_pc(s: &mut Registers, w: Word) -> Result<(), Error>
+    ensures { (result, s.new) ≡ settled s.old (put_pc (as_address w) (counted w s.old)) }
 {
-    match memory::as_address(w) {
-        Address::At(n) => {
-            let mut t = counted(s, w);
-            t.pc = n;
-            accept(t)
-        }
-        Address::NotAddress => refuse(s, Error::InvalidPc),
-    }
+    let n = memory::as_address(w).ok_or(Error::InvalidPc)?;
+    count(s, w);
+    s.pc = n;
+    Ok(())
 }
 
-fn put_sp(s: Registers, w: Word) -> Put
-    ensures { result ≡ settled s (put_sp (as_address w) (counted w s)) }
+#[tactic(auto, unfolding(definition::specs::Registers::put_sp, definition::specs::Registers::counted))]
+fn put_sp(s: &mut Registers, w: Word) -> Result<(), Error>
+    ensures { (result, s.new) ≡ settled s.old (put_sp (as_address w) (counted w s.old)) }
 {
-    match memory::as_address(w) {
-        Address::At(n) => {
-            let mut t = counted(s, w);
-            t.sp = n;
-            accept(t)
-        }
-        Address::NotAddress => refuse(s, Error::InvalidSp),
-    }
+    let n = memory::as_address(w).ok_or(Error::InvalidSp)?;
+    count(s, w);
+    s.sp = n;
+    Ok(())
 }
 
 // "Writing sr with S clear raises code 3, whatever the value."
-fn put_sr(s: Registers, w: Word) -> Put
-    ensures { result ≡ settled s (put_sr (supervisor s) w (counted w s)) }
+#[tactic(auto, using(word::proofs::Laws::back), unfolding(definition::specs::Registers::put_sr, definition::specs::Registers::counted))]
+fn put_sr(s: &mut Registers, w: Word) -> Result<(), Error>
+    ensures { (result, s.new) ≡ settled s.old (put_sr (supervisor s.old) w (counted w s.old)) }
 {
-    if supervisor(s) {
-        let mut t = counted(s, w);
-        match w {
-            Word::Is(n) => {
-                t.sr = n;
-                accept(t)
-            }
-            Word::Empty => {
-                t.sr = 0;
-                accept(t)
-            }
-            Word::NotWord => refuse(s, Error::InvalidSr),
-        }
-    } else {
-        refuse(s, Error::PrivilegedInstruction)
+    if !supervisor(s) {
+        return Err(Error::PrivilegedInstruction);
     }
+    let sr = match w {
+        Word::Is(n) => n,
+        Word::Empty => 0,
+        Word::NotWord => return Err(Error::InvalidSr),
+    };
+    count(s, w);
+    s.sr = sr;
+    Ok(())
 }
 
 // Computer::set_register
-pub fn put_reg(s: Registers, r: u32, v: Cell) -> Put
-    ensures { result ≡ settled s (put_reg (reg_at r) v s) }
+#[tactic(auto, unfolding(definition::specs::Registers::put_reg, definition::specs::Memory::extract_address))]
+pub fn put_reg(s: &mut Registers, r: Reg, v: Cell) -> Result<(), Error>
+    ensures { (result, s.new) ≡ settled s.old (put_reg r v s.old) }
 {
     match r {
-        1 => {
-            let mut t = s;
-            t.b = v;
-            accept(t)
-        }
-        2 => put_pc(s, memory::extract_word(v)),
-        3 => put_sp(s, memory::extract_word(v)),
-        4 => put_sr(s, memory::extract_word(v)),
-        _ => {
-            let mut t = s;
-            t.a = v;
-            accept(t)
-        }
+        Reg::A => s.a = v,
+        Reg::B => s.b = v,
+        Reg::PC => put_pc(s, memory::extract_word(v))?,
+        Reg::SP => put_sp(s, memory::extract_word(v))?,
+        Reg::SR => put_sr(s, memory::extract_word(v))?,
     }
+    Ok(())
 }

@@ -7,7 +7,6 @@ mod stream;
 const STDOUT: i32 = 1;
 
 fn main() {
-    let mut out = [0u8; 128];
-    let n = stream::put_replay(&mut out);
-    io::write_all(STDOUT, &out[..n]);
+    let verdict = stream::verdict();
+    io::write_all(STDOUT, verdict.as_bytes());
 }

@@ -1,5 +1,7 @@
-// The journal's ring: its test, the places of its records, its start and its count. A record is written and read elsewhere.
-#![tactic(auto)]
+// The journal's ring: its test, the places of its records, its start and its count. A record is written and read elsewhere. The journal stays a lent
+// slice, and `is_journal` a requirement: a struct over it would hold the `&mut` that its records are written through between two of these calls, and
+// would have to show its fact anew after each.
+#![tactic(auto, unfolding(definition::specs::Io::around, journal::specs::Journal::whole_records, journal::specs::Journal::is_journal, journal::specs::Journal::kept_place, journal::specs::Journal::forget_newest, journal::specs::Calls::emptied, crate::specs::Meaning::next_place, crate::specs::Meaning::advanced))]
 
 ghost use Rattle.std.specs.Prelude.{◌≡◌, true, ◌≤◌, length};
 ghost use Rattle.definition.specs.Io.{around};
@@ -12,10 +14,7 @@ pub fn is_whole(journal: &[i64]) -> bool
     ensures { result ≡ whole_records journal.now }
 {
     let n = journal.len();
-    if n < 2 {
-        return false;
-    }
-    ((n - 2) % 37 == 0) & ((1 <= (n - 2) / 37) & ((n - 2) / 37 <= 4096))
+    2 <= n && (n - 2) % 37 == 0 && 1 <= (n - 2) / 37 && (n - 2) / 37 <= 4096
 }
 
 // How many records it has room for.
@@ -30,11 +29,11 @@ pub fn room(journal: &[i64]) -> usize
 pub fn is_journal(journal: &[i64]) -> bool
     ensures { result ≡ is_journal journal.now }
 {
-    if is_whole(journal) {
-        let k = room(journal) as u64;
-        return checks::below_at(journal, 0, k) & checks::below_at(journal, 1, k + 1);
+    if !is_whole(journal) {
+        return false;
     }
-    false
+    let k = room(journal) as u64;
+    checks::is_below(journal[0], k) && checks::is_below(journal[1], k + 1)
 }
 
 // "it gets count 0 [...] and keeps the rest"
@@ -42,7 +41,7 @@ pub fn empty(journal: &mut [i64])
     requires { 2 ≤ length journal.old }
     ensures { journal.new ≡ emptied journal.old }
 {
-    row::put(journal, 1, 0);
+    journal[1] = 0;
 }
 
 // fresh "sets start 0 too"
@@ -50,8 +49,8 @@ pub fn make(journal: &mut [i64])
     requires { 2 ≤ length journal.old }
     ensures { journal.new ≡ with_start 0 (emptied journal.old) }
 {
-    row::put(journal, 1, 0);
-    row::put(journal, 0, 0);
+    empty(journal);
+    journal[0] = 0;
 }
 
 // "start (the oldest record, from 0), count"
@@ -69,19 +68,12 @@ pub fn count(journal: &[i64]) -> usize
     row::number_at(journal, 1) as usize
 }
 
-// A place in a ring of this size.
-fn wrap(n: usize, size: usize) -> usize
-    ensures { result ≡ around size n }
-{
-    if n < size { n } else { n - size }
-}
-
 // The place of the i-th kept record, the oldest being number 0.
 pub fn kept_place(journal: &[i64], i: usize) -> usize
     requires { (is_journal journal.now ≡ true) × (i ≤ records journal.now) }
     ensures { result ≡ kept_place i journal.now }
 {
-    wrap(start(journal) + i, room(journal))
+    console::around(room(journal), start(journal) + i)
 }
 
 // Where the next record goes. "A full journal forgets its oldest step."
@@ -91,9 +83,10 @@ pub fn next_place(journal: &[i64]) -> usize
 {
     let n = count(journal);
     if n < room(journal) {
-        return kept_place(journal, n);
+        kept_place(journal, n)
+    } else {
+        start(journal)
     }
-    start(journal)
 }
 
 // Start and count once a record stands there.
@@ -103,11 +96,11 @@ pub fn advance(journal: &mut [i64])
 {
     let n = count(journal);
     if n < room(journal) {
-        row::put(journal, 1, (n + 1) as i64);
-        return;
+        journal[1] = (n + 1) as i64;
+    } else {
+        let s = console::around(room(journal), start(journal) + 1);
+        journal[0] = s as i64;
     }
-    let s = wrap(start(journal) + 1, room(journal));
-    row::put(journal, 0, s as i64);
 }
 
 // "takes one off the count"
@@ -115,6 +108,5 @@ pub fn retreat(journal: &mut [i64])
     requires { (is_journal journal.old ≡ true) × (1 ≤ count_of journal.old) }
     ensures { journal.new ≡ forget_newest journal.old }
 {
-    let n = count(journal);
-    row::put(journal, 1, (n - 1) as i64);
+    journal[1] = (count(journal) - 1) as i64;
 }

@@ -1,34 +1,56 @@
-// The row of 20 numbers: its parts read into structs, and written back. Places count from 0 here.
+// The row of 20 numbers: its parts read into structs, and written back. Places count from 0 here. It stays a slice, whose length the contracts ask
+// for, since C lends it so and a call's tests say how long it is.
 #![tactic(auto)]
 
 ghost use Rattle.std.specs.Prelude.{◌≡◌, [], ◌+◌, ◌<◌, ◌^◌, pos, nat_abs, length, get_or, set};
-ghost use Rattle.definition.specs.Constants.{ROW, ROW-PC, ROW-SP, ROW-SR, ROW-CYCLES, ROW-ENABLE, ROW-FLAG, ROW-PENDING, ROW-START, ROW-COUNT, ROW-WRITTEN, ROW-INTERVAL, ROW-REMAINING, ROW-MARK};
+ghost use Rattle.definition.specs.Constants.{ROW, ROW-PC, ROW-SP, ROW-SR, ROW-CYCLES, ROW-ENABLE, ROW-FLAG, ROW-PENDING, ROW-START, ROW-COUNT, ROW-WRITTEN, ROW-FENCE, ROW-INTERVAL, ROW-REMAINING, ROW-MARK};
 ghost use Rattle.definition.specs.Word.{eq_z};
 ghost use Rattle.definition.specs.Memory.{cell};
 ghost use Rattle.definition.specs.Calls.{at, put, mark, row_of, delivered_row};
 ghost use Rattle.definition.specs.Accepted.{Below, TimerIn};
-ghost use Rattle.definition.specs.Exec.{core};
-ghost use Rattle.definition.specs.Runtime.{machine};
-ghost use Rattle.console.specs.Meaning.{console_of};
-ghost use Rattle.row.specs.Meaning.{registers_of, marks_of, state_of, timer_of};
+ghost use Rattle.row.specs.Meaning.{registers_of, marks_of, state_of, timer_of, row_state, machine_at};
 
 use console::ConsoleState;
 use definition::{Cell, Marks, Registers, Timer, places};
+
+// Computer, without the lent cells, queue and output record.
+#[derive(Clone, Copy)]
+pub struct State {
+    pub s: Registers,
+    pub cycles: u64,
+    pub k: ConsoleState,
+    pub fence: u32,
+    pub timer: Timer,
+}
+
+impl State {
+    // The machine in an accepted row.
+    pub fn from_row(row: &[i64]) -> State
+        requires { (length row.now ≡ ROW) × (Below (2 ^ 32) (at ROW-PC row.now) × (Below (2 ^ 32) (at ROW-SP row.now) × Below (2 ^ 32) (at ROW-FENCE row.now))) }
+        ensures { result ≡ row_state row.now }
+    {
+        State {
+            s: registers(row),
+            cycles: number_at(row, places::CYCLES),
+            k: console_state(row),
+            fence: number_at(row, places::FENCE) as u32,
+            timer: timer(row),
+        }
+    }
+}
 
 pub fn number_at(row: &[i64], i: usize) -> u64
     requires { i < length row.now }
     ensures { result ≡ nat_abs (get_or row.now i (pos 0)) }
 {
-    let z = row[i];
-    word::magnitude(z)
+    row[i].unsigned_abs()
 }
 
 pub fn mark_at(row: &[i64], i: usize) -> bool
     requires { i < length row.now }
     ensures { result ≡ eq_z (get_or row.now i (pos 0)) (pos 1) }
 {
-    let z = row[i];
-    word::eq(z, 1)
+    row[i] == 1
 }
 
 pub fn cell_at(row: &[i64], i: usize) -> Cell
@@ -46,13 +68,12 @@ pub fn registers(row: &[i64]) -> Registers
     requires { (length row.now ≡ ROW) × (Below (2 ^ 32) (at ROW-PC row.now) × Below (2 ^ 32) (at ROW-SP row.now)) }
     ensures { result ≡ registers_of row.now }
 {
-    let sr = row[places::SR];
     Registers {
         a: cell_at(row, places::A),
         b: cell_at(row, places::B),
         pc: number_at(row, places::PC) as u32,
         sp: number_at(row, places::SP) as u32,
-        sr,
+        sr: row[places::SR],
         empties: 0,
     }
 }
@@ -91,12 +112,6 @@ pub fn timer(row: &[i64]) -> Timer
     }
 }
 
-pub fn mark_number(on: bool) -> i64
-    ensures { result ≡ mark on }
-{
-    if on { 1 } else { 0 }
-}
-
 pub fn put(row: &mut [i64], i: usize, z: i64)
     requires { i < length row.old }
     ensures { row.new ≡ set row.old i z }
@@ -108,99 +123,73 @@ pub fn put_cell(row: &mut [i64], i: usize, v: Cell)
     requires { i + 2 < length row.old }
     ensures { row.new ≡ set (set (set row.old i v.tag) (i + 1) v.first) (i + 2) v.second }
 {
-    let tag = v.tag;
-    let first = v.first;
-    let second = v.second;
-    row[i] = tag;
-    row[i + 1] = first;
-    row[i + 2] = second;
+    row[i] = v.tag;
+    row[i + 1] = v.first;
+    row[i + 2] = v.second;
 }
 
 // pc, sp, sr and cycles.
-pub fn put_numbers(row: &mut [i64], s: Registers, cycles: u64)
+pub fn put_numbers(row: &mut [i64], s: &Registers, cycles: u64)
     requires { (length row.old ≡ ROW) × (cycles < 2 ^ 63) }
-    ensures { row.new ≡ put ROW-CYCLES (pos cycles) (put ROW-SR s.sr (put ROW-SP (pos s.sp) (put ROW-PC (pos s.pc) row.old))) }
+    ensures { row.new ≡ put ROW-CYCLES (pos cycles) (put ROW-SR s.now.sr (put ROW-SP (pos s.now.sp) (put ROW-PC (pos s.now.pc) row.old))) }
 {
-    let pc = s.pc as i64;
-    let sp = s.sp as i64;
-    let sr = s.sr;
-    let spent = cycles as i64;
-    row[places::PC] = pc;
-    row[places::SP] = sp;
-    row[places::SR] = sr;
-    row[places::CYCLES] = spent;
+    row[places::PC] = s.pc as i64;
+    row[places::SP] = s.sp as i64;
+    row[places::SR] = s.sr;
+    row[places::CYCLES] = cycles as i64;
 }
 
-pub fn put_marks(row: &mut [i64], k: Marks)
+pub fn put_marks(row: &mut [i64], k: &Marks)
     requires { length row.old ≡ ROW }
-    ensures { row.new ≡ put ROW-PENDING (mark k.pending) (put ROW-FLAG (mark k.flag) (put ROW-ENABLE (mark k.enable) row.old)) }
+    ensures { row.new ≡ put ROW-PENDING (mark k.now.pending) (put ROW-FLAG (mark k.now.flag) (put ROW-ENABLE (mark k.now.enable) row.old)) }
 {
-    let enable = mark_number(k.enable);
-    let flag = mark_number(k.flag);
-    let pending = mark_number(k.pending);
-    row[places::ENABLE] = enable;
-    row[places::FLAG] = flag;
-    row[places::PENDING] = pending;
+    row[places::ENABLE] = k.enable as i64;
+    row[places::FLAG] = k.flag as i64;
+    row[places::PENDING] = k.pending as i64;
 }
 
-pub fn put_console(row: &mut [i64], k: ConsoleState)
-    requires { (length row.old ≡ ROW) × ((k.start < 2 ^ 63) × ((k.count < 2 ^ 63) × (k.written < 2 ^ 63))) }
-    ensures { row.new ≡ put ROW-WRITTEN (pos k.written) (put ROW-COUNT (pos k.count) (put ROW-START (pos k.start) row.old)) }
+pub fn put_console(row: &mut [i64], k: &ConsoleState)
+    requires { (length row.old ≡ ROW) × ((k.now.start < 2 ^ 63) × ((k.now.count < 2 ^ 63) × (k.now.written < 2 ^ 63))) }
+    ensures { row.new ≡ put ROW-WRITTEN (pos k.now.written) (put ROW-COUNT (pos k.now.count) (put ROW-START (pos k.now.start) row.old)) }
 {
-    let start = k.start as i64;
-    let count = k.count as i64;
-    let written = k.written as i64;
-    row[places::START] = start;
-    row[places::COUNT] = count;
-    row[places::WRITTEN] = written;
+    row[places::START] = k.start as i64;
+    row[places::COUNT] = k.count as i64;
+    row[places::WRITTEN] = k.written as i64;
 }
 
-pub fn put_timer(row: &mut [i64], t: Timer)
-    requires { (length row.old ≡ ROW) × TimerIn t }
-    ensures { row.new ≡ put ROW-MARK (mark t.mark) (put ROW-REMAINING (pos t.remaining) (put ROW-INTERVAL (pos t.interval) row.old)) }
+pub fn put_timer(row: &mut [i64], t: &Timer)
+    requires { (length row.old ≡ ROW) × TimerIn t.now }
+    ensures { row.new ≡ put ROW-MARK (mark t.now.mark) (put ROW-REMAINING (pos t.now.remaining) (put ROW-INTERVAL (pos t.now.interval) row.old)) }
 {
-    let interval = t.interval as i64;
-    let remaining = t.remaining as i64;
-    let mark = mark_number(t.mark);
-    row[places::INTERVAL] = interval;
-    row[places::REMAINING] = remaining;
-    row[places::MARK] = mark;
+    row[places::INTERVAL] = t.interval as i64;
+    row[places::REMAINING] = t.remaining as i64;
+    row[places::MARK] = t.mark as i64;
 }
 
 // The whole row anew.
-pub fn write_row(
-    row: &mut [i64],
-    s: Registers,
-    cycles: u64,
-    k: ConsoleState,
-    fence: u32,
-    timer: Timer,
-)
-    requires { (length row.old ≡ ROW) × ((cycles < 2 ^ 63) × ((k.start < 2 ^ 63) × ((k.count < 2 ^ 63) × ((k.written < 2 ^ 63) × TimerIn timer)))) }
-    ensures { row.new ≡ row_of (machine (core [] s) cycles (console_of k [] []) fence timer) }
+pub fn write_row(row: &mut [i64], m: &State)
+    requires { (length row.old ≡ ROW) × ((m.now.cycles < 2 ^ 63) × ((m.now.k.start < 2 ^ 63) × ((m.now.k.count < 2 ^ 63) × ((m.now.k.written < 2 ^ 63) × TimerIn m.now.timer)))) }
+    ensures { row.new ≡ row_of (machine_at [] [] [] m.now) }
 {
-    let a = s.a;
-    let b = s.b;
-    let marks = k.marks;
-    put_cell(row, places::A, a);
-    put_cell(row, places::B, b);
-    put_numbers(row, s, cycles);
-    put_marks(row, marks);
-    put_console(row, k);
-    put(row, places::FENCE, fence as i64);
-    put_timer(row, timer);
+    put_cell(row, places::A, m.s.a);
+    put_cell(row, places::B, m.s.b);
+    put_numbers(row, &m.s, m.cycles);
+    put_marks(row, &m.k.marks);
+    put_console(row, &m.k);
+    put(row, places::FENCE, m.fence as i64);
+    put_timer(row, &m.timer);
 }
 
 // The row after n bytes were delivered.
+#[tactic(auto, unfolding(definition::specs::Calls::delivered_row))]
 pub fn put_delivered(row: &mut [i64], n: usize)
     requires { (length row.old ≡ ROW) × (nat_abs (at ROW-COUNT row.old) + n < 2 ^ 63) }
     ensures { row.new ≡ delivered_row n row.old }
 {
-    let k = marks::input_pushed(marks(row), n);
-    let flag = mark_number(k.flag);
-    let pending = mark_number(k.pending);
-    let count = (number_at(row, places::COUNT) + n as u64) as i64;
-    row[places::FLAG] = flag;
-    row[places::PENDING] = pending;
-    row[places::COUNT] = count;
+    let mut k = marks(row);
+    marks::input_pushed(&mut k, n);
+    let count = number_at(row, places::COUNT) + n as u64;
+    row[places::FLAG] = k.flag as i64;
+    row[places::PENDING] = k.pending as i64;
+    row[places::COUNT] = count as i64;
 }

@@ -1,16 +1,16 @@
--- What the runner makes of its input. Which bytes the input has no contract says, so each of these speaks of some text.
-use Rattle.std.specs.Prelude.{◌≡◌, Bool, true, cond, List, [], ◌++◌, ℕ, eqb, length, take}
-use Rattle.image_run.specs.Image.{printed, said}
+-- What the runner makes of its input, as far as it is known which bytes that has left: the system does not say, a reader over memory does.
+use Rattle.std.specs.Prelude.{◌≡◌, List, ℕ, Option, IfSome, length, take}
+use Rattle.io.specs.Counts.{IsPrefixLen}
+use Rattle.image_run.specs.declared.Output.{Output}
+use Rattle.image_run.specs.Image.{printed_of}
 
--- One read: what it gave stands behind what was read before. It is the last where it gave nothing.
-pub record PartRead (before after : List ℕ) (ended failed : Bool) : Type 0 where
-  pub part : List ℕ
-  pub taken : after ≡ before ++ part
-  pub last : ended ≡ eqb (length part) 0
-  pub unread : failed ≡ true → part ≡ []
+-- The first n bytes of the text are what was read: the front of the input, as much of it as there is room for.
+pub record ReadsFront (known : Option (List ℕ)) (text : List ℕ) (n : ℕ) : Type 0 where
+  pub bound : IsPrefixLen n text
+  pub front : IfSome known (λ input. take n text ≡ take (length text) input)
 
--- The first n bytes of out, and the first m of err, are what the definition prints of the text that was read.
-pub record Printed (failed : Bool) (n : ℕ) (out : List ℕ) (m : ℕ) (err : List ℕ) : Type 0 where
+-- What is printed is what the definition prints of the text that was read.
+pub record ReportsInput (known : Option (List ℕ)) (p : Output) : Type 0 where
   pub text : List ℕ
-  pub put : take n out ≡ cond failed [] (printed text)
-  pub told : take m err ≡ cond failed [] (said text)
+  pub front : IfSome known (λ input. text ≡ take 32769 input)
+  pub printed : p ≡ printed_of text

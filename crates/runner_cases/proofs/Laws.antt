@@ -1,50 +1,53 @@
 -- When a case passes, how the tally grows and where it ends. Assumes nothing.
-use mathlib.Core.Path.{◌≡◌, refl, sym, ap, ◌∙◌}
-use mathlib.Core.Bool.{Bool, true, false, cond, false≢true, ◌&&◌}
-use mathlib.Core.List.{List, [], ◌∷◌, ◌++◌, append_assoc}
-use Prim.Native.Nat.{ℕ, zero, suc, ◌+◌, ◌-◌, ◌<◌, ◌≤◌}
-use native.Mathlib.Omega.{arith}
-use lib.Dec.{eqb}
-use lib.ListN.{length, take, drop}
-use borrow.Author.Tests.{eqb-true, eq-eqb, ne_eqb, le-leb, lt-leb}
-use Rattle.printing.specs.Decimal.{decimal}
-use Rattle.image_run.specs.Image.{printed}
+use Rattle.std.proofs.Common.{◌≡◌, refl, sym, ap, ◌∙◌, Bool, cond, ◌&&◌, true, false, List, [], ◌∷◌, ℕ, zero, suc, ◌+◌, ◌*◌, ◌-◌, ◌<◌, ◌≤◌, arith, eqb, length, get_or, take, drop, drop-cons, add-one, length-take, length-drop, get_or-take, get_or-drop}
+use Rattle.std.specs.Int.{from_bool}
+use lib.Pointwise.{pointwise}
+use lib.Seq.{drop-length}
+use borrow.Author.Tests.{le-leb, lt-leb}
 use Rattle.runner_cases.specs.declared.Tally.{Tally}
-use Rattle.runner_cases.specs.Cases.{length_at, input_at, due_at, end_of, same_text, passing, tally, counted, tallied, tally_of, passed_name, of_name, ends_name, passed_text, verdict_text}
+use Rattle.runner_cases.specs.Cases.{digit_of, length_at, input_at, due_at, end_of, same_text, passing, tally, counted, tallied, tally_of}
 
 -- ---- two texts
 
-same-itself : (s : List ℕ) → same_text s s ≡ true
+pub same_is : (s t : List ℕ) → pointwise eqb s t ≡ same_text s t
 unfolding same_text
-same-itself [] = refl
-same-itself (a ∷ s) = rw (eq-eqb a a refl, same-itself s)
+same_is [] [] = refl
+same_is [] (b ∷ t) = refl
+same_is (a ∷ s) [] = refl
+same_is (a ∷ s) (b ∷ t) = ap (λ (r : Bool). eqb a b && r) (same_is s t)
 
-same_true : (s t : List ℕ) → same_text s t ≡ true → s ≡ t
-unfolding same_text
-same_true [] [] h = refl
-same_true [] (b ∷ t) h = absurd (false≢true h)
-same_true (a ∷ s) [] h = absurd (false≢true h)
-same_true (a ∷ s) (b ∷ t) h = go (λ k. same_true s t k) (eqb a b) refl h
-  where
-    go : (same_text s t ≡ true → s ≡ t) → (x : Bool) → eqb a b ≡ x → (x && same_text s t) ≡ true → a ∷ s ≡ b ∷ t
-    go f true e k =
-        let p : a ≡ b = eqb-true a b e in
-        let q = f k in
-        cc
-    go f false e k = absurd (false≢true k)
+-- ---- the length that digits say
 
-module _ (input due text : List ℕ) (is : text ≡ printed input) where
-  pub passing-one : text ≡ due → 1 ≡ passing input due
-  unfolding passing
-  passing-one e = rw (← is, e, same-itself due)
+-- digits behind a number
+abbrev pub number : ℕ → List ℕ → ℕ
+number n [] = n
+number n (b ∷ t) = number (n * 10 + digit_of b) t
 
-  pub passing-none : (text ≡ due → ⊥) → 0 ≡ passing input due
-  unfolding passing
-  passing-none n = go (same_text (printed input) due) refl
-    where
-      go : (b : Bool) → same_text (printed input) due ≡ b → ◌≡◌ {A = ℕ} 0 (cond b 1 0)
-      go true e = absurd (n (is ∙ same_true (printed input) due e))
-      go false e = refl
+pub number_more : (n i : ℕ) (t : List ℕ) → i < length t → number n (drop i t) ≡ number (n * 10 + digit_of (get_or t i 0)) (drop (i + 1) t)
+number_more n i t h = rw (add-one, drop-cons t i 0 h)
+
+pub number_end : (n i : ℕ) (t : List ℕ) → i ≡ length t → number n (drop i t) ≡ n
+number_end n i t e = rw (e, drop-length)
+
+seven : (t : List ℕ) → length t ≡ 7 → number 0 t ≡ digit_of (get_or t 0 0) * 1000000 + digit_of (get_or t 1 0) * 100000 + digit_of (get_or t 2 0) * 10000 + (digit_of (get_or t 3 0) * 1000 + digit_of (get_or t 4 0) * 100 + digit_of (get_or t 5 0) * 10) + digit_of (get_or t 6 0)
+seven [] h = absurd (omega arith)
+seven (a ∷ []) h = absurd (omega arith)
+seven (a ∷ b ∷ []) h = absurd (omega arith)
+seven (a ∷ b ∷ c ∷ []) h = absurd (omega arith)
+seven (a ∷ b ∷ c ∷ d ∷ []) h = absurd (omega arith)
+seven (a ∷ b ∷ c ∷ d ∷ e ∷ []) h = absurd (omega arith)
+seven (a ∷ b ∷ c ∷ d ∷ e ∷ f ∷ []) h = absurd (omega arith)
+seven (a ∷ b ∷ c ∷ d ∷ e ∷ f ∷ g ∷ []) h = omega arith
+seven (a ∷ b ∷ c ∷ d ∷ e ∷ f ∷ g ∷ x ∷ t) h = absurd (omega arith)
+
+pub length_is : (s : List ℕ) (at : ℕ) → at + 7 ≤ length s → number 0 (take 7 (drop at s)) ≡ length_at s at
+unfolding length_at
+length_is s at h =
+    let t = take 7 (drop at s) in
+    let l : length t ≡ 7 = simp (length-take, length-drop) (omega arith) in
+    let g : (k : ℕ) → k < 7 → get_or t k 0 ≡ get_or s (at + k) 0 = λ k i. rw (get_or-take, get_or-drop) in
+    let z : at + 0 ≡ at = omega arith in
+    seven t l ∙ rw (g 0 (omega arith), g 1 (omega arith), g 2 (omega arith), g 3 (omega arith), g 4 (omega arith), g 5 (omega arith), g 6 (omega arith), z)
 
 -- ---- the tally
 
@@ -71,7 +74,7 @@ counted_none s =
     ap (λ (k : ℕ). tallied k s (tally 0 0 0)) z
 
 module _ (s : List ℕ) (at seen passed a b : ℕ) (is : Counted s at seen passed) (ea : a ≡ length_at s at) (eb : b ≡ length_at s (at + 8)) where
-  pub counted-more : (one : ℕ) → seen < length s → at + 16 + a + b ≤ length s → one ≡ passing (take (at + 16 + a - (at + 16)) (drop (at + 16) s)) (take (at + 16 + a + b - (at + 16 + a)) (drop (at + 16 + a) s)) → Counted s (at + 16 + a + b) (seen + 1) (passed + one)
+  pub counted-more : (one : ℕ) → seen < length s → at + 16 + a + b ≤ length s → one ≡ cond (passing (take (at + 16 + a - (at + 16)) (drop (at + 16) s)) (take (at + 16 + a + b - (at + 16 + a)) (drop (at + 16 + a) s))) 1 0 → Counted s (at + 16 + a + b) (seen + 1) (passed + one)
   unfolding counted end_of input_at due_at
   counted-more one h w o =
       let p : at + 16 + a - (at + 16) ≡ a = omega arith in
@@ -87,16 +90,11 @@ module _ (s : List ℕ) (at seen passed a b : ℕ) (is : Counted s at seen passe
 pub counted-rest : (s : List ℕ) (at seen passed : ℕ) → Counted s at seen passed → length s < at + 16 → tally at seen passed ≡ tally_of s
 counted-rest s at seen passed is h = counted-whole s at seen passed _ _ is refl refl (omega arith)
 
--- ---- the pieces of what is said
+-- what a verdict adds
+pub one_or_none : (b : Bool) → from_bool b ≤ 1
+one_or_none true = omega arith
+one_or_none false = omega arith
 
-pub passed-put : {a b c d e : List ℕ} (t : Tally) → a ≡ passed_name → b ≡ a ++ decimal t.passed → c ≡ b ++ of_name → d ≡ c ++ decimal t.seen → e ≡ d ++ (10 ∷ []) → e ≡ passed_text t
-unfolding passed_text
-passed-put t p₁ p₂ p₃ p₄ p₅ = rw (p₅, p₄, p₃, p₂, p₁) (simp append_assoc)
-
-pub passed-verdict : (t : Tally) (n : ℕ) → t.at ≡ n → passed_text t ≡ verdict_text t n
-unfolding verdict_text
-passed-verdict t n e = rw (eq-eqb t.at n e)
-
-pub ends-verdict : (t : Tally) (n : ℕ) → (t.at ≡ n → ⊥) → ends_name ≡ verdict_text t n
-unfolding verdict_text
-ends-verdict t n e = rw (ne_eqb t.at n e)
+pub adds_is : (b : Bool) → from_bool b ≡ cond b 1 0
+adds_is true = refl
+adds_is false = refl

@@ -31,16 +31,16 @@ same_text [] (b ∷ t) = false
 same_text (a ∷ s) [] = false
 same_text (a ∷ s) (b ∷ t) = eqb a b && same_text s t
 
--- 1 where the runner prints what is due, else 0.
-unfoldable pub passing : List ℕ → List ℕ → ℕ
-passing input due = cond (same_text (printed input) due) 1 0
+-- Whether the runner prints what is due.
+unfoldable pub passing : List ℕ → List ℕ → Bool
+passing input due = same_text (printed input) due
 
 abbrev pub tally : ℕ → ℕ → ℕ → Tally
 tally at seen passed = record { at = at; seen = seen; passed = passed }
 
 -- The case at a place is seen.
 unfoldable pub counted : List ℕ → Tally → Tally
-counted s t = tally (end_of s t.at) (t.seen + 1) (t.passed + passing (input_at s t.at) (due_at s t.at))
+counted s t = tally (end_of s t.at) (t.seen + 1) (t.passed + cond (passing (input_at s t.at) (due_at s t.at)) 1 0)
 
 -- Up to k cases; ends where a case does not stand whole.
 unfoldable pub tallied : ℕ → List ℕ → Tally → Tally

@@ -1,41 +1,48 @@
 // What a step does to the machine, decided and not yet written.
-ghost use Rattle.std.specs.Prelude.{◌≡◌};
-ghost use Rattle.runtime.specs.Meaning.{unsent, unchanged};
+
+ghost use Rattle.std.specs.Prelude.{◌≡◌, List, ℤ, ℕ};
+ghost use Rattle.row.specs.Meaning.{machine_at};
+ghost use Rattle.runtime.specs.Meaning.{effects_at};
 
 use console::ConsoleState;
-use definition::{Registers, Timer};
-use stores::Plan;
+use definition::Timer;
+use registers::Plan;
+use row::State;
 
-// The registers and the cell write that waits, the console, the timer, and the byte that waits for place `to` of the output record.
 #[derive(Clone, Copy)]
 pub struct Effects {
-    pub p: Plan,
+    pub plan: Plan,
+    pub cycles: u64,
     pub k: ConsoleState,
     pub timer: Timer,
-    pub sends: bool,
-    pub to: usize,
-    pub byte: u8,
+    // The byte that waits for the output record.
+    pub byte: Option<u8>,
 }
 
-// No byte waits.
-pub fn unsent(p: Plan, k: ConsoleState, timer: Timer) -> Effects
-    ensures { result ≡ unsent p k timer }
-{
-    Effects {
-        p,
-        k,
-        timer,
-        sends: false,
-        to: 0,
-        byte: 0,
+impl Effects {
+    // Nothing is done yet.
+    pub(crate) fn none(m: &State) -> Effects
+        ensures { result ≡ record { plan = record { s = m.now.s; write = None }; cycles = m.now.cycles; k = m.now.k; timer = m.now.timer; byte = None } }
+    {
+        Effects {
+            plan: Plan {
+                s: m.s,
+                write: None,
+            },
+            cycles: m.cycles,
+            k: m.k,
+            timer: m.timer,
+            byte: None,
+        }
     }
-}
 
-// Nothing waits.
-pub fn unchanged(s: Registers, k: ConsoleState, timer: Timer) -> Effects
-    ensures { result ≡ unchanged s k timer }
-{
-    let d = stores::with_none(registers::accept(s));
-    let p = d.p;
-    unsent(p, k, timer)
+    // The instruction's part is done.
+    pub(crate) fn planned(m: &State, plan: Plan) -> Effects
+        ensures { result ≡ record { plan = plan; cycles = m.now.cycles; k = m.now.k; timer = m.now.timer; byte = None } }
+    {
+        Effects {
+            plan,
+            ..Effects::none(m)
+        }
+    }
 }

@@ -1,23 +1,39 @@
-// Computer::recover_from_exception, in parts: the handler's test, and the registers afterwards.
-ghost use Rattle.std.specs.Prelude.{◌≡◌, ◌≤◌};
+// Computer::recover_from_exception, in parts: the handler's test, and the machine entered.
+
+ghost use Rattle.std.specs.Prelude.{◌≡◌, ◌≤◌, ◌<◌, ◌+◌, ◌^◌, ℤ, ℕ, List};
 ghost use Rattle.definition.specs.Memory.{cell_count};
-ghost use Rattle.definition.specs.Runtime.{has_handler, entered_sr, entered_registers};
+ghost use Rattle.definition.specs.Runtime.{has_handler, saved, entered_sr, entered};
 ghost use Rattle.memory.specs.Overlay.{overlay};
+ghost use Rattle.row.specs.Meaning.{machine_at};
 
-use definition::{Cell, Registers};
+use memory::Write;
+use row::State;
 
-// "if cell 200 is no instruction", once the write that waits is made: v at `at`.
-pub fn has_handler(cells: &[i64], at: u32, v: Cell) -> bool
+// "if cell 200 is no instruction", once the write that waits is made
+#[tactic(auto, using(crate::proofs::Laws::handler_read, crate::proofs::Laws::handler_there))]
+pub fn has_handler(cells: &[i64], write: Option<Write>) -> bool
     requires { 256 ≤ cell_count cells.now }
-    ensures { result ≡ has_handler (overlay at v cells.now) }
+    ensures { result ≡ has_handler (overlay write cells.now) }
 {
-    if at == 200 {
-        return memory::is_instruction(v);
+    match memory::read_over(cells, write, 200) {
+        Some(v) => memory::is_instruction(v),
+        None => false,
     }
-    memory::is_instruction(memory::get_cell(cells, 200))
+}
+
+// "pc, sr and code go to cells 100, 101, 102"
+#[tactic(auto, using(word::proofs::Laws::back), unfolding(definition::specs::Runtime::saved))]
+fn save(cells: &mut [i64], pc: u32, sr: i64, code: u32)
+    requires { 256 ≤ cell_count cells.old }
+    ensures { cells.new ≡ saved pc sr code cells.old }
+{
+    memory::put_cell(cells, 100, memory::address_cell(pc));
+    memory::put_cell(cells, 101, memory::word_cell(sr));
+    memory::put_cell(cells, 102, memory::address_cell(code));
 }
 
 // "S is set", "Code 0 also clears I."
+#[tactic(auto, using(word::proofs::Laws::back, crate::proofs::Laws::entered_zero, crate::proofs::Laws::entered_suc))]
 pub fn entered_sr(code: u32, sr: i64) -> i64
     ensures { result ≡ entered_sr code sr }
 {
@@ -29,12 +45,15 @@ pub fn entered_sr(code: u32, sr: i64) -> i64
     }
 }
 
-// "pc is 200"
-pub fn entered_registers(code: u32, s: Registers) -> Registers
-    ensures { result ≡ entered_registers code s }
+// "pc is 200", "and one cycle is added"
+#[tactic(auto, using(word::proofs::Laws::back), unfolding(definition::specs::Runtime::entered, definition::specs::Runtime::entered_core, definition::specs::Runtime::entered_registers))]
+pub fn enter(cells: &mut [i64], m: &mut State, code: u32)
+    requires least { 256 ≤ cell_count cells.old }
+    requires cycles { m.old.cycles + 1 < 2 ^ 64 }
+    ensures { (q o : List ℕ) → machine_at cells.new q o m.new ≡ entered code (machine_at cells.old q o m.old) }
 {
-    let mut t = s;
-    t.pc = 200;
-    t.sr = entered_sr(code, s.sr);
-    t
+    save(cells, m.s.pc, m.s.sr, code);
+    m.s.pc = 200;
+    m.s.sr = entered_sr(code, m.s.sr);
+    m.cycles += 1;
 }

@@ -1,78 +1,55 @@
-// Computer::decode_instruction.
-ghost use Rattle.std.specs.Prelude.{◌≡◌, true, ℕ, ◌<◌, ◌≤◌};
+// Computer::decode_instruction, and the instruction executed.
+
+ghost use Rattle.std.specs.Prelude.{◌≡◌, ◌≤◌, ◌<◌, ℕ, true, None, IfOk};
 ghost use Rattle.definition.specs.Constants.{CELLS-MOST};
 ghost use Rattle.definition.specs.Memory.{cell_count, cell_at};
-ghost use Rattle.definition.specs.Encoding.{sound};
-ghost use Rattle.runtime.specs.Meaning.{no_instr, Decodes, Fetches};
+ghost use Rattle.definition.specs.Encoding.{sound, extract_instruction};
+ghost use Rattle.definition.specs.Exec.{Core};
+ghost use Rattle.definition.specs.Runtime.{fetch, attempt, or_instruction};
+ghost use Rattle.registers.specs.Meaning.{res_of, core_of};
 
-use arguments::Arg;
-use definition::{Cell, Error, Registers};
-use encoding::Instr;
-
-// The instruction at pc, with pc moved on. Where not ok, `i` is a filler.
-#[derive(Clone, Copy)]
-pub struct Fetched {
-    pub ok: bool,
-    pub error: Error,
-    pub i: Instr,
-    pub s: Registers,
-}
-
-fn no_instruction() -> Instr
-    ensures { result ≡ no_instr }
-{
-    let x = Arg {
-        mode: 0,
-        reg: 0,
-        number: 0,
-    };
-    Instr {
-        op: 0,
-        cost: 0,
-        x,
-        y: x,
-    }
-}
+use definition::{Cell, Error, Executed, Instruction};
+use registers::Plan;
 
 // "A fetched cell that is no instruction raises code 2 with pc moved on."
-fn decoded(v: Cell, s: Registers) -> Fetched
+fn decoded(v: Cell) -> Result<Instruction, Error>
     requires { sound v ≡ true }
-    ensures { Decodes s result v }
+    ensures value { (c : Core) → res_of result c ≡ or_instruction (extract_instruction v) c }
+    ensures cheap { IfOk result (λ i. i.cycles ≤ 3) }
 {
-    let tag = v.tag;
-    if tag < 2 {
-        return Fetched {
-            ok: false,
-            error: Error::InvalidInstruction,
-            i: no_instruction(),
-            s,
-        };
+    if v.tag < 2 {
+        return Err(Error::InvalidInstruction);
     }
-    Fetched {
-        ok: true,
-        error: Error::Reset,
-        i: encoding::decode((tag as u32) - 2, v.first, v.second),
-        s,
-    }
+    Ok(encoding::decode((v.tag as u32) - 2, v.first, v.second))
 }
 
 // "Fetch at pc outside the cells raises code 5 with pc unmoved."
-pub fn fetch(cells: &[i64], s: Registers) -> Fetched
+#[tactic(auto, unfolding(registers::specs::Meaning::res_of, definition::specs::Exec::and_then, definition::specs::Runtime::fetch))]
+pub fn fetch(cells: &[i64], p: &mut Plan) -> Result<Instruction, Error>
     requires most { cell_count cells.now ≤ CELLS-MOST }
     requires sound { (n : ℕ) → n < cell_count cells.now → sound (cell_at cells.now n) ≡ true }
-    ensures { Fetches cells.now s result }
+    requires none { p.old.write ≡ None }
+    ensures value { res_of result (core_of cells.now p.new) ≡ fetch (core_of cells.now p.old) }
+    ensures write { p.new.write ≡ None }
+    ensures cheap { IfOk result (λ i. i.cycles ≤ 3) }
 {
-    let pc = s.pc;
-    let n = pc as usize;
-    if n < cells.len() / 3 {
-        let mut t = s;
-        t.pc = pc + 1;
-        return decoded(memory::get_cell(cells, n), t);
-    }
-    Fetched {
-        ok: false,
-        error: Error::InvalidMemoryAccess,
-        i: no_instruction(),
-        s,
-    }
+    let v = arguments::read(cells, p, p.s.pc)?;
+    p.s.pc += 1;
+    decoded(v)
+}
+
+#[tactic(auto, unfolding(registers::specs::Meaning::res_of, definition::specs::Exec::and_then, definition::specs::Runtime::attempt))]
+pub fn attempt(cells: &[i64], guard: u32, p: &mut Plan) -> Result<Executed, Error>
+    requires most { cell_count cells.now ≤ CELLS-MOST }
+    requires sound { (n : ℕ) → n < cell_count cells.now → sound (cell_at cells.now n) ≡ true }
+    requires none { p.old.write ≡ None }
+    ensures value { res_of result (core_of cells.now p.new) ≡ attempt guard (core_of cells.now p.old) }
+    ensures cheap { IfOk result (λ x. x.cost ≤ 3) }
+{
+    let i = fetch(cells, p)?;
+    let request = instructions::execute(cells, guard, p, i)?;
+    Ok(Executed {
+        cost: i.cycles,
+        request,
+    })
 }

@@ -1,50 +1,119 @@
-// The end of a step, from where it arrived: decided, then written.
-ghost use Rattle.std.specs.Prelude.{◌≡◌, cond, List, ℕ, ◌+◌, ◌<◌, ◌≤◌, ◌^◌, length};
+// The end of a step, from where it arrived: decided, then written. And a raise, which has nothing to write before entry.
+
+ghost use Rattle.std.specs.Prelude.{◌≡◌, ◌≤◌, ◌<◌, ◌+◌, ◌^◌, true, List, ℕ, length, MatchResult};
+ghost use Rattle.definition.specs.Constants.{CYCLES-END};
 ghost use Rattle.definition.specs.Memory.{cell_count};
-ghost use Rattle.definition.specs.Timer.{tick_entry};
-ghost use Rattle.definition.specs.Runtime.{limit, settle};
-ghost use Rattle.runtime.specs.Meaning.{machine_at, Room, turn_of, stepped_of};
+ghost use Rattle.definition.specs.Runtime.{settle, limit, recover, has_handler, entered, elapsed, completed};
+ghost use Rattle.memory.specs.Overlay.{overlay};
+ghost use Rattle.row.specs.Meaning.{machine_at};
+ghost use Rattle.runtime.specs.Meaning.{effects_at, turn_of, outcome_of, Room};
 
-use super::arrive::Arrival;
-use super::decide::Decision;
-use super::{State, Stepped};
-use definition::Timer;
+use crate::Stop;
+use crate::commit::commit;
+use crate::effects::Effects;
+use crate::entry::{enter, has_handler};
+use crate::turn::{Arrival, Turn};
+use row::State;
 
-// The step, decided so, leaves m.
-pub fn leaves(d: Decision, m: State) -> Stepped
-    ensures { result ≡ record { completed = d.completed; stop = d.stop; detail = d.detail; m = m } }
+const NO_HANDLER: u32 = 2;
+
+const CYCLES_FULL: u32 = 7;
+
+// "7 the step would pass 2^63 - 1 cycles"
+fn within(cycles: u64) -> Result<(), Stop>
+    ensures { MatchResult result (λ u. cycles < CYCLES-END) (λ e. (CYCLES-END ≤ cycles) × (e ≡ record { number = 7; detail = 0 })) }
 {
-    Stepped {
-        completed: d.completed,
-        stop: d.stop,
-        detail: d.detail,
-        m,
+    if cycles < 0x8000_0000_0000_0000 {
+        Ok(())
+    } else {
+        Err(Stop {
+            number: CYCLES_FULL,
+            detail: 0,
+        })
     }
 }
 
-// In a step, entry takes its cycle off the timer.
-fn elapsed(enters: bool, code: u32, timer: Timer) -> Timer
-    ensures { result ≡ cond enters (tick_entry code timer) timer }
+// What was decided is written, unless the step stops with 7: that leaves m, the machine before the step.
+#[tactic(auto, using(crate::proofs::Laws::end_in, crate::proofs::Laws::end_out))]
+fn finish(
+    cells: &mut [i64],
+    output: &mut [u8],
+    m: &mut State,
+    effects: Effects,
+    end: Result<(), Stop>,
+) -> Result<(), Stop>
+    requires { Room (length output.old) m.old effects }
+    ensures { (q : List ℕ) → outcome_of result (machine_at cells.new q output.new m.new) ≡ limit (machine_at cells.old q output.old m.old) (outcome_of end (effects_at cells.old q output.old m.old effects)) }
 {
-    if enters {
-        return timer::tick_entry(code, timer);
-    }
-    timer
+    within(effects.cycles)?;
+    commit(cells, output, m, effects);
+    end
 }
 
-// m is the machine before the step, which stop 7 leaves; the fence is that of every step.
-pub fn settle(cells: &mut [i64], output: &mut [u8], m: State, fence: u32, a: Arrival) -> Stepped
-    requires sized { (256 ≤ cell_count cells.old) × (cell_count cells.old ≤ 10000) }
-    requires cycles { a.cycles + 1 < 2 ^ 64 }
-    requires room { Room (length output.old) a.f }
-    ensures { (q : List ℕ) → stepped_of cells.new q output.new result ≡ limit (machine_at cells.old q output.old m) (settle (turn_of cells.old q output.old fence a)) }
+// The same, and the handler entered.
+#[tactic(auto, using(crate::proofs::Laws::elapsed_out))]
+fn finish_entering(
+    cells: &mut [i64],
+    output: &mut [u8],
+    m: &mut State,
+    f: Effects,
+    code: u32,
+) -> Result<(), Stop>
+    requires least { 256 ≤ cell_count cells.old }
+    requires cycles { f.cycles + 1 < 2 ^ 64 }
+    requires room { Room (length output.old) m.old f }
+    ensures { (q : List ℕ) → outcome_of result (machine_at cells.new q output.new m.new) ≡ limit (machine_at cells.old q output.old m.old) (completed (elapsed code (entered code (effects_at cells.old q output.old m.old f)))) }
 {
-    let d = super::decide::decide(cells, a);
-    if d.full {
-        return leaves(d, m);
+    within(f.cycles + 1)?;
+    commit(cells, output, m, f);
+    enter(cells, m, code);
+    timer::tick_entry(&mut m.timer, code);
+    Ok(())
+}
+
+#[tactic(auto, using(crate::proofs::Laws::recover_in, crate::proofs::Laws::recover_out), unfolding(definition::specs::Runtime::settle, definition::specs::Runtime::elapses))]
+pub fn settle(cells: &mut [i64], output: &mut [u8], m: &mut State, turn: Turn) -> Result<(), Stop>
+    requires least { 256 ≤ cell_count cells.old }
+    requires cycles { turn.effects.cycles + 1 < 2 ^ 64 }
+    requires room { Room (length output.old) m.old turn.effects }
+    ensures { (q : List ℕ) → outcome_of result (machine_at cells.new q output.new m.new) ≡ limit (machine_at cells.old q output.old m.old) (settle (turn_of turn.arrival (effects_at cells.old q output.old m.old turn.effects))) }
+{
+    let f = turn.effects;
+    match turn.arrival {
+        Arrival::Completes => finish(cells, output, m, f, Ok(())),
+        Arrival::Stops(number, detail) => finish(cells, output, m, f, Err(Stop { number, detail })),
+        Arrival::Enters(code) => {
+            if has_handler(cells, f.plan.write) {
+                finish_entering(cells, output, m, f, code)
+            } else {
+                finish(cells, output, m, f, Err(no_handler(code)))
+            }
+        }
     }
-    let mut after = super::commit::commit(cells, output, fence, a, d.enters);
-    let timer = after.timer;
-    after.timer = elapsed(d.enters, a.number, timer);
-    leaves(d, after)
+}
+
+// "if cell 200 is no instruction, stop with that code"
+fn no_handler(code: u32) -> Stop
+    ensures { result ≡ record { number = 2; detail = code } }
+{
+    Stop {
+        number: NO_HANDLER,
+        detail: code,
+    }
+}
+
+// Computer::recover_from_exception by itself, with its cycle: "a handler entry [...] by raise takes off none".
+#[tactic(auto, using(crate::proofs::Laws::entered_out, crate::proofs::Laws::stopped_in, crate::proofs::Laws::stopped_out, crate::proofs::Laws::recover_in, crate::proofs::Laws::recover_out), unfolding(memory::specs::Overlay::overlay))]
+pub fn raise(cells: &mut [i64], m: &mut State, code: u32) -> Result<(), Stop>
+    requires least { 256 ≤ cell_count cells.old }
+    requires cycles { m.old.cycles + 1 < 2 ^ 64 }
+    ensures { (q o : List ℕ) → outcome_of result (machine_at cells.new q o m.new) ≡ limit (machine_at cells.old q o m.old) (recover code (machine_at cells.old q o m.old)) }
+{
+    if !has_handler(cells, None) {
+        within(m.cycles)?;
+        return Err(no_handler(code));
+    }
+    within(m.cycles + 1)?;
+    enter(cells, m, code);
+    Ok(())
 }

@@ -1,4 +1,4 @@
-pub mod Parts
 pub mod Checks
+pub mod Parts
 pub mod Stops
 pub mod Turns

@@ -1,4 +1,7 @@
 -- Every stop's number is one of "Stops", 0 to 7.
+use Rattle.definition.specs.declared.Executed.{Executed}
+use Rattle.definition.specs.declared.Request.{Request}
+use Rattle.definition.specs.declared.Request.TheVariants.{Nothing, Reads, Writes}
 use mathlib.Core.Bool.{◌&&◌}
 use Prim.Native.Nat.{ℕ, zero, suc, ◌≤◌}
 use native.Mathlib.Omega.{arith}
@@ -11,8 +14,7 @@ use Rattle.definition.specs.Exception.{ending}
 use Rattle.definition.specs.Registers.{interrupt_enable}
 use Rattle.definition.specs.Io.{output_full}
 use Rattle.definition.specs.Exec.{Core, Res, ok, err}
-use Rattle.definition.specs.Instructions.{Request, nothing, reads, writes}
-use Rattle.definition.specs.Runtime.{Machine, Executed, Turn, completes, enters, stops, ends, poll, conclude, serve, after_attempt, guard, turn, attempt, Outcome, completed, stopped, has_handler, recover, elapses, settle, reached, limit, step, Run, later, go_on, run}
+use Rattle.definition.specs.Runtime.{Machine, Turn, completes, enters, stops, ends, poll, conclude, serve, after_attempt, guard, turn, attempt, Outcome, completed, stopped, has_handler, recover, elapses, settle, reached, limit, step, Run, later, go_on, run}
 use Rattle.definition.specs.Calls.{Lent, Called, passes, run_check, run_call, ran, run_refused}
 use Rattle.bench.proofs.Laws.{either}
 
@@ -51,9 +53,9 @@ conclude-few cost m (err e c) = ends-few e _
 
 serve-few : (m : Machine) (q : Request) (cost : ℕ) (c : Core) → TurnFew (serve m q cost c)
 unfolding serve
-serve-few m nothing cost c = conclude-few cost m (ok tt c)
-serve-few m (reads p r) cost c = conclude-few cost _ _
-serve-few m (writes p w) cost c =
+serve-few m Nothing cost c = conclude-few cost m (ok tt c)
+serve-few m (Reads p r) cost c = conclude-few cost _ _
+serve-few m (Writes p w) cost c =
     either TurnFew (output_full p m.console) (λ e. omega arith) (λ e. either TurnFew (eqb p TIMER-INTERVAL-PORT) (λ f. poll-few _) (λ f. conclude-few cost _ (ok tt c)))
 
 after-few : (m : Machine) (r : Res Executed) → TurnFew (after_attempt m r)

@@ -1,19 +1,21 @@
--- A turn of the seat whose turn it is, by its two cases.
+-- A seat's turn, by whether it takes one.
 use mathlib.Core.Path.{◌≡◌, refl, sym, ap, ◌∙◌}
 use mathlib.Core.Bool.{Bool, true, false, cond, ◌&&◌}
 use mathlib.Core.List.{List, ◌++◌}
-use Prim.Native.Nat.{ℕ, ◌*◌, ◌/◌, ◌<◌, ◌^◌}
+use Prim.Native.Nat.{ℕ, ◌*◌, ◌/◌, ◌<◌, ◌≤◌, ◌^◌}
 use native.Mathlib.Omega.{arith}
 use lib.Dec.{ltb}
 use lib.ListN.{length, take, drop, take-append-drop}
+use borrow.Author.Tests.{lt-ltb}
 use Rattle.definition.specs.declared.Ran.{Ran}
-use Rattle.definition.specs.Calls.{Lent, lent, Called, called, run_call}
+use Rattle.definition.specs.Calls.{Lent, Called, called, run_call}
+use Rattle.definition.specs.UserMode.{Accepted}
+use Rattle.definition.proofs.Verdict.{and_both}
+use Rattle.definition.proofs.Accepted.{runs-accepted}
 use Rattle.bench.specs.declared.Seat.{Seat}
-use Rattle.bench.specs.declared.clock.Clock.{Clock}
-use Rattle.bench.specs.declared.clock.Took.{Took}
 use Rattle.bench.specs.Seat.{can_go_on, turn_budget, after}
-use Rattle.bench.specs.Bench.{seated, part_of, machine_at, takes_turn, turn, turned, taken}
-use Rattle.bench.specs.Clock.{with_part, with_machine, seated_at, turn_of}
+use Rattle.bench.specs.Bench.{Seated, seated, part_of, machine_at, takes_turn, turn, turned, taken}
+use Rattle.bench.specs.Turn.{with_part, with_machine, turn_at}
 use Rattle.seats.specs.Meaning.{ran_at}
 use Rattle.seats.proofs.Stops.{call-few}
 
@@ -24,35 +26,60 @@ same-part {A = A} n k xs =
     ap (λ (r : List A). take (k * (length xs / n)) xs ++ r) (take-append-drop (length xs / n) (drop (k * (length xs / n)) xs)) ∙ take-append-drop (k * (length xs / n)) xs
 
 same-machine : (n k : ℕ) (b : Lent) → with_machine n k (machine_at n k b) b ≡ b
-same-machine n k b i = lent (same-part n k b.cells i) (same-part n k b.queue i) (same-part n k b.output i) (same-part n k b.row i)
+same-machine n k b i = record {
+  cells = same-part n k b.cells i;
+  queue = same-part n k b.queue i;
+  output = same-part n k b.output i;
+  row = same-part n k b.row i;
+}
 
-module _ (s : Seat) (c : Clock) (b : Lent) where
-  abbrev pub Taking : Bool
-  Taking = ltb 0 c.left && can_go_on s
+module _ (n k t : ℕ) (s : Seat) (b : Lent) where
+  abbrev x : Seated
+  x = seated s (machine_at n k b)
 
-  -- by whether it is the seat's turn
-  abbrev by_turn : Bool → Called Took Lent
-  by_turn t =
-      let r = run_call (turn_budget s c.left) (machine_at c.seats c.at b) in
-      let x = seated_at s c b in
-      let y = cond t (seated (after r.answer.steps r.answer.stop s) r.left) x in
-      called (record { steps = cond t r.answer.steps 0; stop = y.seat.stop }) (with_machine c.seats c.at y.machine b)
+  abbrev by_turn : Bool → Called ℕ (Seat × Lent)
+  by_turn c =
+      let r = run_call (turn_budget s t) (machine_at n k b) in
+      let y = cond c (seated (after r.answer.steps r.answer.stop s) r.left) x in
+      called (cond c r.answer.steps 0) (y.seat, with_machine n k y.machine b)
 
-  turn_is : turn_of s c b ≡ by_turn Taking
-  unfolding turn_of taken turned turn takes_turn
+  turn_is : turn_at n k t s b ≡ by_turn (takes_turn t x)
+  unfolding turn_at taken turned turn
   turn_is = refl
 
-  pub turn-taken : Taking ≡ true → (x : Ran) (l : Lent) → called x l ≡ ran_at c.seats c.at (turn_budget s c.left) b → called (record { steps = x.steps; stop = x.stop }) l ≡ turn_of s c b
-  turn-taken t x l e =
-      ap (λ (y : Called Ran Lent). called {A = Took} (record { steps = y.answer.steps; stop = y.answer.stop }) y.left) e ∙ sym (turn_is ∙ ap by_turn t)
+  passed : takes_turn t x ≡ false → called 0 (s, b) ≡ turn_at n k t s b
+  passed h = ap (λ (l : Lent). called {A = ℕ} 0 (s, l)) (sym (same-machine n k b)) ∙ sym (turn_is ∙ ap by_turn h)
 
-  pub turn-passed : Taking ≡ false → called (record { steps = 0; stop = s.stop }) b ≡ turn_of s c b
-  turn-passed t =
-      ap (λ (l : Lent). called {A = Took} (record { steps = 0; stop = s.stop }) l) (sym (same-machine c.seats c.at b)) ∙ sym (turn_is ∙ ap by_turn t)
+  pub none_left : t ≡ 0 → called 0 (s, b) ≡ turn_at n k t s b
+  unfolding takes_turn
+  none_left h = passed (ap (λ (j : ℕ). ltb 0 j && can_go_on s) h)
 
--- the stop fits 32 bits
-pub ran-few : (n k budget : ℕ) (b : Lent) (x : Ran) (l : Lent) → called x l ≡ ran_at n k budget b → x.stop < 2 ^ 32
-ran-few n k budget b x l e =
-    let f = call-few budget (machine_at n k b) in
-    let s : x.stop ≡ (run_call budget (machine_at n k b)).answer.stop = ap (λ (y : Called Ran Lent). y.answer.stop) e in
-    omega (arith, f, s)
+  pub cannot_go_on : can_go_on s ≡ false → called 0 (s, b) ≡ turn_at n k t s b
+  unfolding takes_turn
+  cannot_go_on h = passed (go (ltb 0 t))
+    where
+      go : (c : Bool) → c && can_go_on s ≡ false
+      go true = h
+      go false = refl
+
+  -- it runs, and is the seat u then
+  pub turn-taken : {r : Ran} {l : Lent} {u : Seat} → called r l ≡ ran_at n k (turn_budget s t) b → 0 < t → can_go_on s ≡ true → u ≡ after r.steps r.stop s → called r.steps (u, l) ≡ turn_at n k t s b
+  unfolding takes_turn
+  turn-taken {r} {l} {u} ran h can is =
+      (λ i. called r.steps (is i, l))
+      ∙ ap (λ (y : Called Ran Lent). called y.answer.steps (after y.answer.steps y.answer.stop s, y.left)) ran
+      ∙ sym (turn_is ∙ ap by_turn (and_both (ltb 0 t) (can_go_on s) (lt-ltb 0 t h) can))
+
+-- what a run answers: its stop fits 32 bits, and its steps are within the budget
+module _ (n k budget : ℕ) (b : Lent) {r : Ran} {l : Lent} (ran : called r l ≡ ran_at n k budget b) where
+  pub stop-fits : r.stop < 2 ^ 32
+  stop-fits =
+      let f = call-few budget (machine_at n k b) in
+      let e = ap (λ (y : Called Ran Lent). y.answer.stop) ran in
+      omega (arith, f, e)
+
+  pub steps-within : Accepted (machine_at n k b) → r.steps ≤ budget
+  steps-within a =
+      let f = (runs-accepted budget (machine_at n k b) a).within in
+      let e = ap (λ (y : Called Ran Lent). y.answer.steps) ran in
+      omega (arith, f, e)

@@ -3,209 +3,102 @@
 
 ghost use Rattle.std.specs.Prelude.{◌≡◌, ◌<◌};
 ghost use Rattle.definition.specs.Calls.{called, lent, run_check};
+ghost use Rattle.definition.specs.Answers.{done_of};
 ghost use Rattle.definition.specs.UserMode.{Accepted};
-ghost use Rattle.bench.specs.Bench.{part_of, machine_at, machines, seat_by_seat, bench_check};
-ghost use Rattle.bench.specs.Clock.{begun, turn_of};
-ghost use Rattle.seats.specs.Meaning.{ran_at};
+ghost use Rattle.bench.specs.Refused.{checked_of};
+ghost use Rattle.bench.specs.Bench.{machine_at, machines, seat_by_seat, bench_check};
+ghost use Rattle.bench.specs.Turn.{turn_at};
+ghost use Rattle.seats.specs.Meaning.{lent_of, AreSame, ran_at};
 
-use bench::clock::{Clock, Took};
-use bench::{Benched, Seat};
-use definition::{Done, Ran};
+use bench::buffers::{part, range, seats_fit};
+use bench::{Refused, Seat};
+use definition::Ran;
+use definition::answers::Refusal;
 
-// "each in equal parts, seat 1 first": that of place k, from 0, of n.
-fn numbers_part(s: &[i64], n: usize, k: usize) -> &[i64]
-    requires { k < n }
-    ensures { result.now ≡ part_of n k s.now }
-{
-    let p = bench::clock::part(s.len(), n, k);
-    let from = p.from;
-    let to = p.to;
-    &s[from..to]
+// "Four lent buffers hold the cells, rows, queues and outputs of 1 to 16 seats".
+#[derive(Drop)]
+pub struct Buffers<'a> {
+    pub cells: &'a mut [i64],
+    pub queues: &'a mut [u8],
+    pub outputs: &'a mut [u8],
+    pub rows: &'a mut [i64],
 }
 
-fn bytes_part(s: &[u8], n: usize, k: usize) -> &[u8]
-    requires { k < n }
-    ensures { result.now ≡ part_of n k s.now }
-{
-    let p = bench::clock::part(s.len(), n, k);
-    let from = p.from;
-    let to = p.to;
-    &s[from..to]
-}
+impl Buffers<'_> {
+    // "places within the seat"
+    pub fn seat_check(&self, n: usize, k: usize) -> Result<(), Refusal>
+        requires { k < n }
+        ensures { done_of result ≡ run_check (machine_at n k (lent_of self.now)) }
+    {
+        refusals::run_check(
+            part(self.cells, n, k),
+            part(self.queues, n, k),
+            part(self.outputs, n, k),
+            part(self.rows, n, k),
+        )
+    }
 
-// "places within the seat"
-pub fn seat_check(
-    cells: &[i64],
-    queues: &[u8],
-    outputs: &[u8],
-    rows: &[i64],
-    n: usize,
-    k: usize,
-) -> Done
-    requires { k < n }
-    ensures { result ≡ run_check (machine_at n k (lent cells.now queues.now outputs.now rows.now)) }
-{
-    let c = numbers_part(cells, n, k);
-    let q = bytes_part(queues, n, k);
-    let o = bytes_part(outputs, n, k);
-    let r = numbers_part(rows, n, k);
-    refusals::run_check(c, q, o, r)
-}
-
-// "The others are then checked seat by seat, lowest first".
-pub fn seats_check(cells: &[i64], queues: &[u8], outputs: &[u8], rows: &[i64], n: usize) -> Benched
-    ensures { result ≡ seat_by_seat 1 (machines n n 0 (lent cells.now queues.now outputs.now rows.now)) }
-{
-    let mut k: usize = 0;
-    while k < n {
-        let d = seat_check(cells, queues, outputs, rows, n, k);
-        if d.refusal != 0 {
-            return Benched {
-                refusal: d.refusal,
-                place: d.place,
-                seat: k as u64 + 1,
-                left: 0,
-            };
+    // "The others are then checked seat by seat, lowest first".
+    pub fn seats_check(&self, n: usize) -> Result<(), Refused>
+        ensures { checked_of result ≡ seat_by_seat 1 (machines n n 0 (lent_of self.now)) }
+    {
+        for k in 0..n {
+            if let Err(e) = self.seat_check(n, k) {
+                return Err(Refused::Machine(k as u64 + 1, e));
+            }
         }
-        k += 1;
+        Ok(())
     }
-    Benched {
-        refusal: 0,
-        place: 0,
-        seat: 0,
-        left: 0,
-    }
-}
 
-// 19 first: without it there are no parts.
-pub fn bench_check(
-    list: usize,
-    cells: &[i64],
-    queues: &[u8],
-    outputs: &[u8],
-    rows: &[i64],
-    seats: u64,
-) -> Benched
-    ensures { result ≡ bench_check seats list (lent cells.now queues.now outputs.now rows.now) }
-{
-    if bench::clock::seats_fit(
-        list,
-        cells.len(),
-        queues.len(),
-        outputs.len(),
-        rows.len(),
-        seats,
-    ) {
-        return seats_check(cells, queues, outputs, rows, seats as usize);
+    // 19 first: without it there are no parts.
+    #[tactic(auto, unfolding(bench::specs::Bench::bench_check))]
+    pub fn bench_check(&self, list: usize, seats: u64) -> Result<(), Refused>
+        ensures { checked_of result ≡ bench_check seats list (lent_of self.now) }
+    {
+        let fit = seats_fit(
+            list,
+            self.cells.len(),
+            self.queues.len(),
+            self.outputs.len(),
+            self.rows.len(),
+            seats,
+        );
+        if !fit {
+            return Err(Refused::Seats);
+        }
+        self.seats_check(seats as usize)
     }
-    Benched {
-        refusal: 19,
-        place: 0,
-        seat: 0,
-        left: 0,
-    }
-}
 
-// Where the turns begin, with d to say whether the bench is refused.
-fn begun(d: Benched, seats: u64, total: u64) -> Clock
-    ensures { result ≡ begun d seats total }
-{
-    if d.refusal == 0 {
-        return Clock {
-            refusal: 0,
-            place: 0,
-            seat: 0,
-            left: total,
-            seats: seats as usize,
-            at: 0,
-            moved: false,
-            runs: 0 < total,
-        };
+    // A run of the machine at place k of n.
+    fn run_at(&mut self, n: usize, k: usize, budget: u64) -> Ran
+        requires { (k < n) × Accepted (machine_at n k (lent_of self.old)) }
+        ensures same { AreSame self.old self.new }
+        ensures is { called result (lent_of self.new) ≡ ran_at n k budget (lent_of self.old) }
+    {
+        let c = range(self.cells.len(), n, k);
+        let q = range(self.queues.len(), n, k);
+        let o = range(self.outputs.len(), n, k);
+        let r = range(self.rows.len(), n, k);
+        machine::run(
+            &mut self.cells[c],
+            &mut self.queues[q],
+            &mut self.outputs[o],
+            &mut self.rows[r],
+            budget,
+        )
     }
-    Clock {
-        refusal: d.refusal,
-        place: d.place,
-        seat: d.seat,
-        left: 0,
-        seats: seats as usize,
-        at: 0,
-        moved: false,
-        runs: false,
-    }
-}
 
-// The buffers are `&mut` for the caller alone, who lends all of its calls the same.
-pub fn begin(
-    list: usize,
-    cells: &mut [i64],
-    queues: &mut [u8],
-    outputs: &mut [u8],
-    rows: &mut [i64],
-    seats: u64,
-    total: u64,
-) -> Clock
-    ensures { (result ≡ begun (bench_check seats list (lent cells.old queues.old outputs.old rows.old)) seats total) × (lent cells.new queues.new outputs.new rows.new ≡ lent cells.old queues.old outputs.old rows.old) }
-{
-    let d = bench_check(list, cells, queues, outputs, rows, seats);
-    begun(d, seats, total)
-}
-
-// A run of the machine at place k of n.
-fn run_at(
-    cells: &mut [i64],
-    queues: &mut [u8],
-    outputs: &mut [u8],
-    rows: &mut [i64],
-    n: usize,
-    k: usize,
-    budget: u64,
-) -> Ran
-    requires { (k < n) × Accepted (machine_at n k (lent cells.old queues.old outputs.old rows.old)) }
-    ensures { called result (lent cells.new queues.new outputs.new rows.new) ≡ ran_at n k budget (lent cells.old queues.old outputs.old rows.old) }
-{
-    let pc = bench::clock::part(cells.len(), n, k);
-    let pq = bench::clock::part(queues.len(), n, k);
-    let po = bench::clock::part(outputs.len(), n, k);
-    let pr = bench::clock::part(rows.len(), n, k);
-    let c0 = pc.from;
-    let c1 = pc.to;
-    let q0 = pq.from;
-    let q1 = pq.to;
-    let o0 = po.from;
-    let o1 = po.to;
-    let r0 = pr.from;
-    let r1 = pr.to;
-    machine::run(
-        &mut cells[c0..c1],
-        &mut queues[q0..q1],
-        &mut outputs[o0..o1],
-        &mut rows[r0..r1],
-        budget,
-    )
-}
-
-// "each a run on the least of 100, its limit's rest and the total's", if it is the seat's turn
-pub fn run_part(
-    cells: &mut [i64],
-    queues: &mut [u8],
-    outputs: &mut [u8],
-    rows: &mut [i64],
-    c: Clock,
-    s: Seat,
-) -> Took
-    requires { (c.at < c.seats) × Accepted (machine_at c.seats c.at (lent cells.old queues.old outputs.old rows.old)) }
-    ensures { called result (lent cells.new queues.new outputs.new rows.new) ≡ turn_of s c (lent cells.old queues.old outputs.old rows.old) }
-{
-    if (0 < c.left) & bench::can_go_on(s) {
-        let budget = bench::turn_budget(s, c.left);
-        let r = run_at(cells, queues, outputs, rows, c.seats, c.at, budget);
-        return Took {
-            steps: r.steps,
-            stop: r.stop as u32,
-        };
-    }
-    Took {
-        steps: 0,
-        stop: s.stop,
+    // "each a run on the least of 100, its limit's rest and the total's", if it is the seat's turn: the steps that it takes off the total.
+    pub fn turn(&mut self, seat: &mut Seat, n: usize, k: usize, left: u64) -> u64
+        requires { (k < n) × Accepted (machine_at n k (lent_of self.old)) }
+        ensures same { AreSame self.old self.new }
+        ensures is { called result (seat.new, lent_of self.new) ≡ turn_at n k left seat.old (lent_of self.old) }
+    {
+        if left == 0 || !seat.can_go_on() {
+            return 0;
+        }
+        let ran = self.run_at(n, k, seat.turn_budget(left));
+        seat.update(ran.steps, ran.stop as u32);
+        ran.steps
     }
 }

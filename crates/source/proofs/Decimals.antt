@@ -10,11 +10,16 @@ use Rattle.encoding.proofs.Rule.{both}
 use Rattle.decimal.specs.Decimal.{Digits}
 use Rattle.expression.specs.Reader.{head, tail, front, past, is_digit, decimal}
 use Rattle.expression.proofs.Spans.{by_bool, clash, front-past, front-every, past_of}
-use Rattle.expression.proofs.Places.{digit-ends, front-on}
 use Rattle.expression.proofs.Complete.{every-digit, head-digits}
 use Rattle.expression.proofs.Sound as S
 use Rattle.source.specs.Source.{after_minus, after_number, numeric_from, is_numeric}
 use Rattle.source.specs.Theorems.{Decimal, plus, minus, NumericLine, numeric, Begins, Exactly}
+
+-- a run of digits begins with the first
+front-on : (t : List ℕ) → is_digit (head t) ≡ true → front is_digit t ≡ head t ∷ front is_digit (tail t)
+unfolding head tail front is_digit
+front-on [] h = clash h refl
+front-on (b ∷ t) h = rw h
 
 -- ---- a number in front of a byte that is none of it
 
@@ -71,7 +76,7 @@ record Number (t : List ℕ) : Type 0 where
 
 front-digits : (t : List ℕ) → is_digit (head t) ≡ true → Digits (front is_digit t) (decimal 0 (front is_digit t))
 unfolding head
-front-digits t h = S.digits (front is_digit t) (front-every is_digit t) (rw (front-on is_digit digit-ends t h) h)
+front-digits t h = S.digits (front is_digit t) (front-every is_digit t) (rw (front-on t h) h)
 
 minus-cut : (t : List ℕ) → head t ≡ 45 → t ≡ 45 ∷ tail t
 unfolding head tail

@@ -2,7 +2,8 @@
 use mathlib.Core.Path.{◌≡◌, refl, sym, ap, ◌∙◌, subst}
 use mathlib.Core.Bool.{Bool, true, false, not, ◌&&◌}
 use mathlib.Core.List.{List, [], ◌∷◌, map}
-use mathlib.Core.Option.{Option, some, none}
+use mathlib.Core.Option as M
+use Rattle.std.specs.Prelude.{Option, Some, None, Result, Ok, Err}
 use Prim.Native.Nat.{ℕ, zero, suc, ◌+◌, ◌≤◌, ◌<◌}
 use native.Mathlib.Omega.{arith}
 use lib.Dec.{eqb, ltb}
@@ -22,8 +23,11 @@ use Rattle.assembly.specs.Reader.{Text, lines, broken, rows}
 use Rattle.assembly.specs.Assemble.{Assembled, cells, refuses, otherwise, lowest, wrong_labels, wrong_values, line_values, place_in, labels_of, line_cell, assembled, assemble, answered, assemble_call}
 use Rattle.assembly.specs.Assemble as J
 use Rattle.definition.specs.Calls.{Called, called}
-use Rattle.source.specs.declared.Loaded.{Loaded}
-use Rattle.source.specs.Source.{start_read, first_line, loaded, start_good, is_numeric, numeric_from, after_number, after_minus, begins_numeric, line_after, numeric_line, lowest_numeric, is18, judged, done, loading}
+use Rattle.lines.specs.declared.Start.{Start}
+use Rattle.definition.specs.declared.Done.{Done}
+use Rattle.source.specs.declared.Refused.{Refused}
+use Rattle.definition.specs.declared.answers.Refusal.TheVariants.{ImageLine}
+use Rattle.source.specs.Source.{start_read, first_line, loaded, start_good, is_numeric, numeric_from, after_number, after_minus, begins_numeric, line_after, numeric_line, lowest_numeric, refused, done_of, is18, assembler_answer, judged, loading}
 use Rattle.source.specs.Theorems.{From, here, on, past, LowestNumeric, NoNumericTo, NoNumeric, answer, made, Small, LowestOf18, LowestOf13, ThenTheOthers}
 use Rattle.source.proofs.Laws.{numeric-first, numeric-next}
 use Rattle.source.proofs.Decimals.{exactly}
@@ -46,17 +50,17 @@ Below fresh t k = (j : ℕ) (r : List ℕ) → j < k → From fresh t j r → is
 
 -- ---- the search of a numeric line, from line m on
 
-record Found (m : ℕ) (fresh : Bool) (t : List ℕ) (n : ℕ) : Type 0 where
+record Found (m : ℕ) (fresh : Bool) (t : List ℕ) (n : Option ℕ) : Type 0 where
   k : ℕ
-  is : n ≡ m + k
+  is : n ≡ Some (m + k)
   q : List ℕ
   stands : From fresh t k q
   fault : is_numeric q ≡ true
   below : Below fresh t k
 
-data Searched (m : ℕ) (fresh : Bool) (t : List ℕ) (n : ℕ) : Type 0 where
+data Searched (m : ℕ) (fresh : Bool) (t : List ℕ) (n : Option ℕ) : Type 0 where
   found : Found m fresh t n → Searched m fresh t n
-  nowhere : n ≡ 0 → ((k : ℕ) → Below fresh t k) → Searched m fresh t n
+  nowhere : n ≡ None → ((k : ℕ) → Below fresh t k) → Searched m fresh t n
 
 module _ (fresh : Bool) (b : ℕ) (t : List ℕ) (clear : fresh ≡ true → is_numeric (b ∷ t) ≡ false) where
   cases-on : eqb b 10 ≡ false → (k : ℕ) → Below false t k → (j : ℕ) (r : List ℕ) → j < k → Cases fresh b t j r → is_numeric r ≡ false
@@ -69,14 +73,15 @@ module _ (fresh : Bool) (b : ℕ) (t : List ℕ) (clear : fresh ≡ true → is_
   cases-past e k ih j r h (same d g) = clash e d
   cases-past e k ih j r h (next i z d g) = ih i r (omega arith) g
 
-  go_on : {m n : ℕ} → eqb b 10 ≡ false → Searched m false t n → Searched m fresh (b ∷ t) n
+  go_on : {m : ℕ} {n : Option ℕ} → eqb b 10 ≡ false → Searched m false t n → Searched m fresh (b ∷ t) n
   go_on e (found f) =
       found (record { k = f.k; is = f.is; q = f.q; stands = on e f.stands; fault = f.fault; below = λ j r h g. cases-on e f.k f.below j r h (split g) })
   go_on e (nowhere z f) = nowhere z (λ k j r h g. cases-on e k (f k) j r h (split g))
 
-  go-past : {m n : ℕ} → eqb b 10 ≡ true → Searched (suc m) true t n → Searched m fresh (b ∷ t) n
-  go-past e (found f) =
-      found (record { k = suc f.k; is = f.is ∙ omega arith; q = f.q; stands = subst (λ (c : ℕ). From fresh (c ∷ t) (suc f.k) f.q) (sym (eqb-true b 10 e)) (past f.stands); fault = f.fault; below = λ j r h g. cases-past e f.k f.below j r h (split g) })
+  go-past : {m : ℕ} {n : Option ℕ} → eqb b 10 ≡ true → Searched (suc m) true t n → Searched m fresh (b ∷ t) n
+  go-past {m} e (found f) =
+      let z : suc m + f.k ≡ m + suc f.k = omega arith in
+      found (record { k = suc f.k; is = f.is ∙ ap Some z; q = f.q; stands = subst (λ (c : ℕ). From fresh (c ∷ t) (suc f.k) f.q) (sym (eqb-true b 10 e)) (past f.stands); fault = f.fault; below = λ j r h g. cases-past e f.k f.below j r h (split g) })
   go-past e (nowhere z f) = nowhere z (λ k j r h g. cases-past e k (f k) j r (omega arith) (split g))
 
 next-line : (m : ℕ) → m < 18446744073709551615 → following m ≡ suc m
@@ -96,7 +101,7 @@ unfolding begins_numeric
 found_here m fresh b t e =
     let p = both fresh (is_numeric (b ∷ t)) e in
     let z : m ≡ m + 0 = omega arith in
-    record { k = 0; is = numeric-first b t m fresh e ∙ z; q = b ∷ t; stands = subst (λ (f : Bool). From f (b ∷ t) 0 (b ∷ t)) (sym p.0) here; fault = p.1; below = λ j r h g. absurd (omega arith) }
+    record { k = 0; is = numeric-first b t m fresh e ∙ ap Some z; q = b ∷ t; stands = subst (λ (f : Bool). From f (b ∷ t) 0 (b ∷ t)) (sym p.0) here; fault = p.1; below = λ j r h g. absurd (omega arith) }
 
 searched : (t : List ℕ) (m : ℕ) (fresh : Bool) → m + length t < 18446744073709551615 → Searched m fresh t (numeric_line m fresh t)
 unfolding numeric_line line_after
@@ -118,19 +123,21 @@ module _ (t : List ℕ) (small : length t < 18446744073709551614) where
   clear-below : (k : ℕ) → Below true t k → NoNumericTo t k
   clear-below k f j r h g b = clash ((exactly r).1 b) (f j r h g)
 
-  lowest-is : (n : ℕ) → Searched 1 true t (suc n) → lowest_numeric t ≡ suc n → LowestNumeric t n
-  lowest-is n (found f) e =
-      let z : f.k ≡ n = omega (arith, f.is) in
-      subst (LowestNumeric t) z (record { q = f.q; stands = f.stands; fault = (exactly f.q).0 f.fault; below = clear-below f.k f.below })
-  lowest-is n (nowhere z f) e = absurd (omega arith)
+  lowest-is : (k : ℕ) → Searched 1 true t (Some k) → (n : ℕ) × ((k ≡ suc n) × LowestNumeric t n)
+  lowest-is k (found f) =
+      let i : k ≡ 1 + f.k = cc (f.is) in
+      (f.k, (omega arith, record { q = f.q; stands = f.stands; fault = (exactly f.q).0 f.fault; below = clear-below f.k f.below }))
+  lowest-is k (nowhere z f) = absurd (cc)
 
-  none_below : (n p : ℕ) → Searched 1 true t n → (n ≡ 0 → ⊥) → p < n → NoNumericTo t p
-  none_below n p (found f) z h = λ j r l g. clear-below f.k f.below j r (omega (arith, f.is)) g
-  none_below n p (nowhere e f) z h = absurd (z e)
+  none_below : (k p : ℕ) → Searched 1 true t (Some k) → p < k → NoNumericTo t p
+  none_below k p (found f) h =
+      let i : k ≡ 1 + f.k = cc (f.is) in
+      λ j r l g. clear-below f.k f.below j r (omega arith) g
+  none_below k p (nowhere e f) h = absurd (cc)
 
-  none_at_all : (n : ℕ) → Searched 1 true t n → n ≡ 0 → NoNumeric t
-  none_at_all n (found f) z = absurd (omega (arith, f.is))
-  none_at_all n (nowhere e f) z = λ k. clear-below k (f k)
+  none_at_all : Searched 1 true t None → NoNumeric t
+  none_at_all (found f) = absurd (cc (f.is))
+  none_at_all (nowhere e f) = λ k. clear-below k (f k)
 
 -- ---- what is answered
 
@@ -153,11 +160,11 @@ number_of (cells vs) = 0
 number_of (refuses n p) = n
 
 -- the assembler has 13, 14 and 15 alone
-others-in : (x y : Option ℕ) (ws : List Cell) → number_of (otherwise 14 x (otherwise 15 y (cells ws))) ≤ 15
+others-in : (x y : M.Option ℕ) (ws : List Cell) → number_of (otherwise 14 x (otherwise 15 y (cells ws))) ≤ 15
 unfolding otherwise number_of
-others-in none none ws = omega arith
-others-in none (some k) ws = omega arith
-others-in (some k) y ws = omega arith
+others-in M.none M.none ws = omega arith
+others-in M.none (M.some k) ws = omega arith
+others-in (M.some k) y ws = omega arith
 
 text_in : (x : Text Expr) → number_of (assembled x) ≤ 15
 unfolding assembled J.judged number_of
@@ -168,45 +175,54 @@ number_in : (u : List ℕ) (n p : ℕ) → assemble 2048 u ≡ refuses n p → n
 unfolding assemble number_of
 number_in u n p e = let h = text_in (rows trees 32 2048 u) in let z : number_of (assemble 2048 u) ≡ n = ap number_of e in omega arith
 
--- the cases of the judgement
-module _ (a : Counted) (n : ℕ) where
-  by-18 : (judged a n).refusal ≡ 18 → (a.refusal ≡ 18 → ⊥) → (is18 a n ≡ true) × ((judged a n).place ≡ following n)
+-- what the assembler's answer becomes, and the cases of the judgement
+module _ (a : Counted) where
+  abbrev told : Done
+  told = done_of (assembler_answer a)
+
+  told-is : (m : ℕ) → told.refusal ≡ suc m → (a.refusal ≡ suc m) × (told.place ≡ following a.place)
+  told-is m h =
+      by_bool (eqb a.refusal 0)
+      (λ z. absurd (let y : ◌≡◌ {A = ℕ} 0 (suc m) = rw z at h in omega arith))
+      (λ z. rw z (rw z at h, refl))
+
+  by-18 : (a.refusal ≡ 18 → ⊥) → (n : Option ℕ) → (done_of (judged a n)).refusal ≡ 18 → (k : ℕ) × ((n ≡ Some k) × ((is18 a k ≡ true) × ((done_of (judged a n)).place ≡ following k)))
   unfolding judged
-  by-18 h l =
-      by_bool (is18 a n)
-      (λ e. rw e (refl, refl))
-      (λ e. by_bool (eqb a.refusal 0)
-      (λ z. absurd (let y : ◌≡◌ {A = ℕ} 0 18 = rw (e, z) at h in omega arith))
-      (λ z. absurd (l (rw (e, z) at h))))
+  by-18 l None h = absurd (l (told-is 17 h).0)
+  by-18 l (Some k) h =
+      by_bool (is18 a k)
+      (λ e. (k, (refl, (e, rw e refl))))
+      (λ e. absurd (l (told-is 17 (rw e at h)).0))
 
-  by-other : (m : ℕ) → (judged a n).refusal ≡ suc m → (suc m ≡ 18 → ⊥) → (is18 a n ≡ false) × ((a.refusal ≡ suc m) × ((judged a n).place ≡ following a.place))
+  by-other : (n : Option ℕ) (m : ℕ) → (done_of (judged a n)).refusal ≡ suc m → (suc m ≡ 18 → ⊥) → ((k : ℕ) → n ≡ Some k → is18 a k ≡ false) × ((a.refusal ≡ suc m) × ((done_of (judged a n)).place ≡ following a.place))
   unfolding judged
-  by-other m h l =
-      by_bool (is18 a n)
-      (λ e. absurd (let y : ◌≡◌ {A = ℕ} 18 (suc m) = rw e at h in l (sym y)))
-      (λ e. by_bool (eqb a.refusal 0)
-      (λ z. absurd (let y : ◌≡◌ {A = ℕ} 0 (suc m) = rw (e, z) at h in omega arith))
-      (λ z. rw (e, z) (refl, (rw (e, z) at h, refl))))
+  by-other None m h c = (λ k e. absurd (cc), told-is m h)
+  by-other (Some k) m h c =
+      by_bool (is18 a k)
+      (λ e. absurd (let y : ◌≡◌ {A = ℕ} 18 (suc m) = rw e at h in c (sym y)))
+      (λ e. rw e (λ j i. (let z : k ≡ j = cc in ap (is18 a) (sym z) ∙ e), told-is m (rw e at h)))
 
-  lower-18 : is18 a n ≡ true → (0 < n) × (a.refusal ≡ 13 → n ≤ a.place)
-  unfolding is18
-  lower-18 e =
-      let p = both (ltb 0 n) (not (eqb a.refusal 13 && ltb a.place n)) e in
-      (ltb-true 0 n p.0, λ r. by_bool (ltb a.place n) (λ l. clash p.1 (rw (eq-eqb a.refusal 13 r, l) refl)) (λ l. ltb-false a.place n l))
+  module _ (k : ℕ) where
+    lower-18 : is18 a k ≡ true → a.refusal ≡ 13 → k ≤ a.place
+    unfolding is18
+    lower-18 e r =
+        let p = both (ltb 0 k) (not (eqb a.refusal 13 && ltb a.place k)) e in
+        by_bool (ltb a.place k) (λ l. clash p.1 (rw (eq-eqb a.refusal 13 r, l) refl)) (λ l. ltb-false a.place k l)
 
-  lower-13 : is18 a n ≡ false → a.refusal ≡ 13 → 0 < n → a.place < n
-  unfolding is18
-  lower-13 e r h =
-      by_bool (ltb a.place n)
-      (λ l. ltb-true a.place n l)
-      (λ l. clash (rw (lt-ltb 0 n h, eq-eqb a.refusal 13 r, l) refl) e)
+    lower-13 : 0 < k → is18 a k ≡ false → a.refusal ≡ 13 → a.place < k
+    unfolding is18
+    lower-13 h e r =
+        by_bool (ltb a.place k)
+        (λ l. ltb-true a.place k l)
+        (λ l. clash (rw (lt-ltb 0 k h, eq-eqb a.refusal 13 r, l) refl) e)
 
-  none-18 : is18 a n ≡ false → (a.refusal ≡ 13 → ⊥) → n ≡ 0
-  unfolding is18
-  none-18 e r =
-      by_bool (ltb 0 n)
-      (λ l. clash (rw (l, ne_eqb a.refusal 13 r) refl) e)
-      (λ l. let h = ltb-false 0 n l in omega arith)
+    none-18 : 0 < k → is18 a k ≡ false → (a.refusal ≡ 13 → ⊥) → ⊥
+    unfolding is18
+    none-18 h e r = clash (rw (lt-ltb 0 k h, ne_eqb a.refusal 13 r) refl) e
+
+done-loaded : (x : Result (Unit {0}) Refused) (s : Start) → done_of (loaded x s) ≡ done_of x
+done-loaded (Ok u) s = refl
+done-loaded (Err e) s = refl
 
 -- ---- the theorems
 
@@ -214,29 +230,26 @@ module _ (t : List ℕ) where
   abbrev pub call : Counted
   call = (answered (made t) empty_cells).answer
 
-  abbrev pub number : ℕ
+  abbrev pub number : Option ℕ
   number = lowest_numeric (next_line t)
 
   pub good-loading : start_good t ≡ true → loading t empty_cells ≡ called (loaded (judged call number) (start_read (first_line t)).start) (answered (made t) empty_cells).left
   unfolding loading
   good-loading e = rw (e, called_is (next_line t))
 
-  pub bad-loading : start_good t ≡ false → loading t empty_cells ≡ called (loaded (done 12 1) (start_read (first_line t)).start) empty_cells
+  pub bad-loading : start_good t ≡ false → loading t empty_cells ≡ called (Err (refused (ImageLine 1))) empty_cells
   unfolding loading
   bad-loading e = rw e
 
-  start-good : start_good t ≡ true → ((answer t).refusal ≡ (judged call number).refusal) × ((answer t).place ≡ (judged call number).place)
-  start-good e = let g = good-loading e in (ap (λ (x : Called Loaded (List ℤ)). x.answer.refusal) g, ap (λ (x : Called Loaded (List ℤ)). x.answer.place) g)
-
-  start-bad : start_good t ≡ false → (answer t).refusal ≡ 12
-  start-bad e = ap (λ (x : Called Loaded (List ℤ)). x.answer.refusal) (bad-loading e)
+  abbrev answered-by : Called (Result Start Refused) (List ℤ) → Done
+  answered-by x = done_of x.answer
 
   -- a refusal other than 12 is one of the judgement
-  judgement : (m : ℕ) → 12 ≤ m → (answer t).refusal ≡ suc m → ((judged call number).refusal ≡ suc m) × ((answer t).place ≡ (judged call number).place)
+  judgement : (m : ℕ) → 12 ≤ m → (answer t).refusal ≡ suc m → answer t ≡ done_of (judged call number)
   judgement m l h =
       by_bool (start_good t)
-      (λ e. let g = start-good e in (sym g.0 ∙ h, g.1))
-      (λ e. absurd (let y = sym (start-bad e) ∙ h in omega arith))
+      (λ e. ap answered-by (good-loading e) ∙ done-loaded (judged call number) (start_read (first_line t)).start)
+      (λ e. absurd (let y : ◌≡◌ {A = ℕ} 12 (suc m) = ap (λ (x : Called (Result Start Refused) (List ℤ)). (answered-by x).refusal) (sym (bad-loading e)) ∙ h in omega arith))
 
   call-not-18 : call.refusal ≡ 18 → ⊥
   call-not-18 h = let b = number_in (next_line t) 18 call.place (answer-is (made t) 17 h) in absurd (omega arith)
@@ -245,36 +258,37 @@ module _ (t : List ℕ) where
     search_is : Searched 1 true (next_line t) number
     search_is = search (next_line t) small
 
-    numbered : (n : ℕ) → number ≡ suc n → LowestNumeric (next_line t) n
-    numbered n e = lowest-is (next_line t) small n (subst (Searched 1 true (next_line t)) e search_is) e
+    numbered : (k : ℕ) → number ≡ Some k → (n : ℕ) × ((k ≡ suc n) × LowestNumeric (next_line t) n)
+    numbered k e = lowest-is (next_line t) small k (subst (Searched 1 true (next_line t)) e search_is)
 
-    clear-to : (p : ℕ) → (0 < number → p < number) → NoNumericTo (next_line t) p
-    clear-to p f =
-        by_bool (ltb 0 number)
-        (λ l. let h = ltb-true 0 number l in none_below (next_line t) small number p search_is (λ z. omega arith) (f h))
-        (λ l. let h = ltb-false 0 number l in none_at_all (next_line t) small number search_is (omega arith) p)
+    numbered-from-1 : (k : ℕ) → number ≡ Some k → 0 < k
+    numbered-from-1 k e = let n = numbered k e in let i = n.1.0 in omega arith
+
+    clear-to : (p : ℕ) (n : Option ℕ) → number ≡ n → ((k : ℕ) → n ≡ Some k → p < k) → NoNumericTo (next_line t) p
+    clear-to p None e f = none_at_all (next_line t) small (subst (Searched 1 true (next_line t)) e search_is) p
+    clear-to p (Some k) e f = none_below (next_line t) small k p (subst (Searched 1 true (next_line t)) e search_is) (f k refl)
+
+    clear : (n : Option ℕ) → number ≡ n → ((k : ℕ) → n ≡ Some k → ⊥) → NoNumeric (next_line t)
+    clear None e f = none_at_all (next_line t) small (subst (Searched 1 true (next_line t)) e search_is)
+    clear (Some k) e f = absurd (f k refl)
 
 pub lowest-18 : LowestOf18
 lowest-18 t small h =
     let j = judgement t 17 (omega arith) h in
-    let b = by-18 (call t) (number t) j.0 (call-not-18 t) in
-    let l = lower-18 (call t) (number t) b.0 in
-    go (number t) refl l.0 (j.1 ∙ b.1) l.1
-  where
-    go : (n : ℕ) → number t ≡ n → 0 < n → (answer t).place ≡ following n → ((call t).refusal ≡ 13 → n ≤ (call t).place) → (k : ℕ) × (((answer t).place ≡ following (suc k)) × (LowestNumeric (next_line t) k × ((p : ℕ) → made t ≡ refuses 13 p → suc k ≤ p)))
-    go zero e l f g = absurd (omega arith)
-    go (suc n) e l f g = (n, (f, (numbered t small n e, λ p q. let a = is-answer (made t) 13 p q in let i = g a.0 in omega (arith, a.1))))
+    let b = by-18 (call t) (call-not-18 t) (number t) (sym (ap (λ (d : Done). d.refusal) j) ∙ h) in
+    let l = numbered t small b.0 b.1.0 in
+    let p = ap (λ (d : Done). d.place) j ∙ b.1.1.1 ∙ ap following l.1.0 in
+    (l.0, (p, (l.1.1, λ q e. let a = is-answer (made t) 13 q e in let i = lower-18 (call t) b.0 b.1.1.0 a.0 in let k = l.1.0 in omega (arith, a.1))))
 
 pub lowest-13 : LowestOf13
 lowest-13 t small h =
     let j = judgement t 12 (omega arith) h in
-    let b = by-other (call t) (number t) 12 j.0 (λ z. omega arith) in
-    ((call t).place, (j.1 ∙ b.1.1, (answer-is (made t) 12 b.1.0, clear-to t small (call t).place (lower-13 (call t) (number t) b.0 b.1.0))))
+    let b = by-other (call t) (number t) 12 (sym (ap (λ (d : Done). d.refusal) j) ∙ h) (λ z. omega arith) in
+    ((call t).place, (ap (λ (d : Done). d.place) j ∙ b.1.1, (answer-is (made t) 12 b.1.0, clear-to t small (call t).place (number t) refl (λ k e. lower-13 (call t) k (numbered-from-1 t small k e) (b.0 k e) b.1.0))))
 
 pub then-the-others : ThenTheOthers
 then-the-others t zero l u small h = absurd (omega arith)
 then-the-others t (suc m) l u small h =
     let j = judgement t m (omega arith) h in
-    let b = by-other (call t) (number t) m j.0 (λ z. omega arith) in
-    let z = none-18 (call t) (number t) b.0 (λ r. omega (arith, b.1.0)) in
-    ((call t).place, (j.1 ∙ b.1.1, (answer-is (made t) m b.1.0, none_at_all (next_line t) small (number t) (search_is t small) z)))
+    let b = by-other (call t) (number t) m (sym (ap (λ (d : Done). d.refusal) j) ∙ h) (λ z. omega arith) in
+    ((call t).place, (ap (λ (d : Done). d.place) j ∙ b.1.1, (answer-is (made t) m b.1.0, clear t small (number t) refl (λ k e. none-18 (call t) k (numbered-from-1 t small k e) (b.0 k e) (λ r. omega (arith, b.1.0))))))

@@ -1,19 +1,10 @@
--- The message, piece by piece, and that there is room for it. Assumes nothing.
-use mathlib.Core.Path.{◌≡◌, refl, ap}
-use mathlib.Core.List.{List, [], ◌∷◌, ◌++◌, append_assoc}
-use Prim.Native.Nat.{ℕ, zero, suc, ◌+◌, ◌-◌, ◌≤◌, ◌<◌}
-use native.Mathlib.Omega.{arith}
-use lib.Dec.{eqb}
-use lib.ListN.{length, length-append}
-use borrow.Author.Tests.{ne_eqb}
+-- The message, and that there is room for it. Assumes nothing.
+use Rattle.std.proofs.Common.{◌≡◌, refl, ap, List, [], ◌∷◌, ℕ, zero, suc, ◌+◌, ◌-◌, ◌≤◌, ◌<◌, arith, eqb, length, length-append}
 use Rattle.expression.specs.Reader.{tail, past}
 use Rattle.expression.specs.Table.{is_inner, next_line}
 use Rattle.expression.proofs.Spans.{front-past, by_bool}
-use Rattle.printing.proofs.Laws.{decimal-short}
+use Rattle.printing.proofs.Laws.{decimal_short, texts}
 use Rattle.source.specs.Message.{lines_from, line_at, number_text, expected_text, start_text, grammar_text, label_text, numbers_text, value_text}
-
-pub seven : (a b c d e f g : List ℕ) {t u v w x y z : List ℕ} → t ≡ a → u ≡ t ++ b → v ≡ u ++ c → w ≡ v ++ d → x ≡ w ++ e → y ≡ x ++ f → z ≡ y ++ g → z ≡ a ++ (b ++ (c ++ (d ++ (e ++ (f ++ g)))))
-seven a b c d e f g h i j k l m n = rw (n, m, l, k, j, i, h) (simp append_assoc)
 
 -- ---- the line that was read
 
@@ -23,17 +14,18 @@ lines_next p k t h =
     let e : p - k ≡ suc (p - (k + 1)) = omega arith in
     rw e
 
-pub lines-here : (p k : ℕ) (t : List ℕ) → p ≤ k → lines_from (p - k) t ≡ t
+pub lines_here : (p k : ℕ) (t : List ℕ) → p ≤ k → lines_from (p - k) t ≡ t
 unfolding lines_from
-lines-here p k t h =
+lines_here p k t h =
     let e : p - k ≡ 0 = omega arith in
     rw e
 
 -- past the end of the text there is nothing
-pub lines_none : (k : ℕ) → lines_from k [] ≡ []
+pub lines_none : (k : ℕ) (t : List ℕ) → length t ≡ 0 → lines_from k t ≡ t
 unfolding lines_from next_line past tail
-lines_none zero = refl
-lines_none (suc k) = lines_none k
+lines_none zero t h = refl
+lines_none (suc k) [] h = lines_none k [] refl
+lines_none (suc k) (b ∷ t) h = absurd (omega arith)
 
 tail-short : (t : List ℕ) → length (tail t) ≤ length t
 unfolding tail
@@ -54,9 +46,9 @@ lines-short (suc k) t =
     let b = next-short t in
     omega arith
 
-pub line-short : (p : ℕ) (t : List ℕ) → length (line_at p t) ≤ length t
+pub line_short : (p : ℕ) (t : List ℕ) → length (line_at p t) ≤ length t
 unfolding line_at
-line-short p t =
+line_short p t =
     let a = lines-short (p - 1) t in
     omega (arith, simp length-append at (ap length (front-past is_inner (lines_from (p - 1) t))))
 
@@ -64,33 +56,14 @@ line-short p t =
 
 pub number_short : (p : ℕ) → length (number_text p) ≤ 25
 unfolding number_text
-number_short p = let a = decimal-short 20 p in simp length-append (omega arith)
+number_short p = let a = decimal_short p in simp length-append (omega arith)
 
-module _ (n : ℕ) where
-  pub expected-12 : n ≡ 12 → expected_text n ≡ start_text
-  unfolding expected_text
-  expected-12 e = rw e
+pub expected_short : (n : ℕ) → length (expected_text n) ≤ 150
+unfolding expected_text start_text grammar_text label_text numbers_text value_text
+expected_short n =
+    by_bool (eqb n 12) (λ e. rw e (omega arith)) (λ e. rw e
+    (by_bool (eqb n 13) (λ f. rw f (omega arith)) (λ f. rw f
+    (by_bool (eqb n 14) (λ g. rw g (omega arith)) (λ g. rw g
+    (by_bool (eqb n 18) (λ h. rw h (omega arith)) (λ h. rw h (omega arith))))))))
 
-  pub expected-13 : n ≡ 13 → expected_text n ≡ grammar_text
-  unfolding expected_text
-  expected-13 e = rw e
-
-  pub expected-14 : n ≡ 14 → expected_text n ≡ label_text
-  unfolding expected_text
-  expected-14 e = rw e
-
-  pub expected-18 : n ≡ 18 → expected_text n ≡ numbers_text
-  unfolding expected_text
-  expected-18 e = rw e
-
-  pub expected-15 : (n ≡ 12 → ⊥) → (n ≡ 13 → ⊥) → (n ≡ 14 → ⊥) → (n ≡ 18 → ⊥) → expected_text n ≡ value_text
-  unfolding expected_text
-  expected-15 h i j k = rw (ne_eqb n 12 h, ne_eqb n 13 i, ne_eqb n 14 j, ne_eqb n 18 k)
-
-  pub expected-short : length (expected_text n) ≤ 150
-  unfolding expected_text start_text grammar_text label_text numbers_text value_text
-  expected-short =
-      by_bool (eqb n 12) (λ e. rw e (omega arith)) (λ e. rw e
-      (by_bool (eqb n 13) (λ f. rw f (omega arith)) (λ f. rw f
-      (by_bool (eqb n 14) (λ g. rw g (omega arith)) (λ g. rw g
-      (by_bool (eqb n 18) (λ h. rw h (omega arith)) (λ h. rw h (omega arith))))))))
+pub ruleset pieces = (texts, number_short, line_short, expected_short)

@@ -1,17 +1,20 @@
 -- The runner's file (Card 7): "The runner takes `start,pc,sp,sr` and then text of Card 1, loaded from cell 0", and which refusal a file gets. A text is a list of
 -- bytes: 10 is a line end, 44 a comma, 45 a minus.
-use Rattle.std.specs.Prelude.{Bool, true, cond, not, ◌&&◌, ℕ, zero, suc, ℤ, ltb, eqb, length, take}
+use Rattle.std.specs.Prelude.{Bool, true, cond, not, ◌&&◌, ℕ, zero, suc, ℤ, ltb, eqb, length, take, Option, Some, None, Result, Ok, Err}
 use mathlib.Core.List.{List, [], ◌∷◌, ◌++◌, foldl}
-use Rattle.definition.specs.declared.Done.{Done}
 use Rattle.definition.specs.declared.Counted.{Counted}
+use Rattle.definition.specs.declared.answers.Refusal.{Refusal}
+use Rattle.definition.specs.declared.answers.Refusal.TheVariants.{ImageLine, NumericLine}
+use Rattle.definition.specs.declared.Done.{Done}
+use Rattle.definition.specs.Answers.{number_of, place_of}
 use Rattle.definition.specs.Calls.{Called, called}
 use Rattle.expression.specs.Reader.{head, tail, front, past, is_digit}
 use Rattle.expression.specs.Table.{is_inner, next_line}
 use Rattle.assembly.specs.Assemble.{assemble_call}
 use Rattle.lines.specs.declared.Reader.{Reader}
 use Rattle.lines.specs.declared.Start.{Start}
+use Rattle.source.specs.declared.Refused.{Refused}
 use Rattle.lines.specs.Reader.{opened, broken, within, following, start_line}
-use Rattle.source.specs.declared.Loaded.{Loaded}
 
 -- "A file over 32,768 bytes is 13 at the line where it passes them, or 12 if that is the start line": the byte that passes them reads as 0, which no line may
 -- hold, and nothing behind it is looked at.
@@ -61,34 +64,46 @@ line_after b k = cond (eqb b 10) (following k) k
 unfoldable pub begins_numeric : Bool → List ℕ → Bool
 begins_numeric fresh t = fresh && is_numeric t
 
--- The lowest such line, or 0; the text stands in line k, at its start or not.
-unfoldable pub numeric_line : ℕ → Bool → List ℕ → ℕ
-numeric_line k fresh [] = 0
-numeric_line k fresh (b ∷ t) = cond (begins_numeric fresh (b ∷ t)) k (numeric_line (line_after b k) (eqb b 10) t)
+-- The lowest such line, if there is one; the text stands in line k, at its start or not.
+unfoldable pub numeric_line : ℕ → Bool → List ℕ → Option ℕ
+numeric_line k fresh [] = None
+numeric_line k fresh (b ∷ t) = cond (begins_numeric fresh (b ∷ t)) (Some k) (numeric_line (line_after b k) (eqb b 10) t)
 
-abbrev pub lowest_numeric : List ℕ → ℕ
+abbrev pub lowest_numeric : List ℕ → Option ℕ
 lowest_numeric t = numeric_line 1 true t
 
 -- ---- which refusal a file gets
 
-abbrev pub done : ℕ → ℕ → Done
-done r p = record { refusal = r; place = p }
+abbrev pub refused : Refusal → Refused
+refused e = record { number = number_of e; place = place_of e }
 
--- "of 13 and 18 the lowest line counts, 18 on a tie": a is what the text is answered by the assembler, n its lowest numeric line, both counted from the text's
--- first line.
+-- The number and the place, 0 and 0 where nothing is refused.
+abbrev pub done_of : {A : Type 0} → Result A Refused → Done
+done_of (Ok _) = record { refusal = 0; place = 0 }
+done_of (Err e) = record { refusal = e.number; place = e.place }
+
+-- "of 13 and 18 the lowest line counts, 18 on a tie": a is what the text is answered by the assembler, n a numeric line, both counted from the text's first
+-- line.
 unfoldable pub is18 : Counted → ℕ → Bool
 is18 a n = ltb 0 n && not (eqb a.refusal 13 && ltb a.place n)
 
--- "after 12 in this order": 13 or 18, then 14, then 15. "Lines count from the start line."
-unfoldable pub judged : Counted → ℕ → Done
-judged a n = cond (is18 a n) (done 18 (following n)) (cond (eqb a.refusal 0) (done 0 0) (done a.refusal (following a.place)))
+-- The assembler's answer, at a line of the file.
+abbrev pub assembler_answer : Counted → Result (Unit {0}) Refused
+assembler_answer a = cond (eqb a.refusal 0) (Ok tt) (Err (record { number = a.refusal; place = following a.place }))
 
-abbrev pub loaded : Done → Start → Loaded
-loaded d s = record { refusal = d.refusal; place = d.place; start = s }
+-- "after 12 in this order": 13 or 18, then 14, then 15. "Lines count from the start line." The numeric line is the lowest, if there is one.
+unfoldable pub judged : Counted → Option ℕ → Result (Unit {0}) Refused
+judged a None = assembler_answer a
+judged a (Some n) = cond (is18 a n) (Err (refused (NumericLine (following n)))) (assembler_answer a)
+
+-- What the start line says, where nothing is refused.
+abbrev pub loaded : Result (Unit {0}) Refused → Start → Result Start Refused
+loaded (Ok _) s = Ok s
+loaded (Err e) s = Err e
 
 -- A text within the limit, loaded from cell 0.
-unfoldable pub loading : List ℕ → List ℤ → Called Loaded (List ℤ)
+unfoldable pub loading : List ℕ → List ℤ → Called (Result Start Refused) (List ℤ)
 loading t cells =
     let s = (start_read (first_line t)).start in
     let m = assemble_call (next_line t) cells in
-    cond (start_good t) (called (loaded (judged m.answer (lowest_numeric (next_line t))) s) m.left) (called (loaded (done 12 1) s) cells)
+    cond (start_good t) (called (loaded (judged m.answer (lowest_numeric (next_line t))) s) m.left) (called (Err (refused (ImageLine 1))) cells)

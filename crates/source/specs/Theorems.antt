@@ -4,8 +4,8 @@ use Rattle.decimal.specs.Decimal.{Digits}
 use Rattle.expression.specs.Table.{next_line}
 use Rattle.assembly.specs.Assemble.{Assembled, refuses, assemble}
 use Rattle.lines.specs.Reader.{following, empty_cells}
-use Rattle.source.specs.declared.Loaded.{Loaded}
-use Rattle.source.specs.Source.{is_numeric, loading}
+use Rattle.definition.specs.declared.Done.{Done}
+use Rattle.source.specs.Source.{is_numeric, done_of, loading}
 
 -- ---- "a line of four comma-parted decimal numbers, of any size", written without the reader
 
@@ -51,8 +51,8 @@ abbrev pub NoNumeric : List ℕ → Type 0
 NoNumeric t = (n : ℕ) → NoNumericTo t n
 
 -- A file within the limit, its text loaded into the runner's 2,048 cells. "Lines count from the start line": line n of the text is line `following n` of the file.
-abbrev pub answer : List ℕ → Loaded
-answer t = (loading t empty_cells).answer
+abbrev pub answer : List ℕ → Done
+answer t = done_of (loading t empty_cells).answer
 
 abbrev pub made : List ℕ → Assembled
 made t = assemble 2048 (next_line t)

@@ -4,113 +4,125 @@
 pub mod message;
 pub mod numeric;
 
-ghost use Rattle.std.specs.Prelude.{◌≡◌, length, take};
-ghost use mathlib.Core.List.{foldl};
-ghost use Rattle.io.specs.Counts.{IsPrefixLen};
+ghost use Rattle.std.specs.Prelude.{◌≡◌};
 ghost use Rattle.definition.specs.Calls.{called};
 ghost use Rattle.lines.specs.Reader.{opened, within};
-ghost use Rattle.source.specs.Source.{bounded, start_end, start_read, is18, judged, loaded, loading};
+ghost use Rattle.source.specs.Source.{bounded, start_end, start_read, refused, is18, assembler_answer, judged, loading};
 
-use definition::{Counted, Done};
+use definition::Counted;
+use definition::answers::Refusal;
+use expression::text::split_line;
+use lines::line::following_line;
 use lines::{Reader, Start};
+use printing::Text;
 
-// What became of a file: a refusal and its line, 0 where there is none, and what its start line says.
+// Why a file is not loaded. No `Refusal`: whatever number the assembler's answer has is kept, and each of its places becomes a line of the file, that of 9 too.
 #[derive(Clone, Copy)]
-pub struct Loaded {
-    pub refusal: u64,
+pub struct Refused {
+    pub number: u64,
     pub place: u64,
-    pub start: Start,
 }
 
-// The file as far as it is looked at, put at the front of t.
-pub fn put_bounded(t: &mut [u8], file: &[u8]) -> usize
-    requires { length t.old ≡ 32769 }
-    ensures t_after { take result t.new ≡ bounded file.now }
-    ensures prefix_len { IsPrefixLen result t.new }
+impl From<Refusal> for Refused {
+    ghost from_gives = { λ e r. r ≡ refused e };
+
+    fn from(e: Refusal) -> Refused
+        ensures { result ≡ refused e }
+    {
+        Refused {
+            number: e.number(),
+            place: e.place(),
+        }
+    }
+}
+
+// The file as far as it is looked at.
+#[tactic(auto, using(printing::proofs::Laws::texts), unfolding(crate::specs::Source::bounded))]
+pub fn bounded(file: &[u8]) -> Text<32769>
+    ensures { result ≡ bounded file.now }
 {
+    let mut text = Text::new();
     if 32768 < file.len() {
-        let n = printing::put(t, 0, &file[..32768]);
-        return printing::put_byte(t, n, 0);
+        text.put(&file[..32768]);
+        text.push(0);
+    } else {
+        text.put(file);
     }
-    printing::put(t, 0, file)
+    text
 }
 
-pub fn end_start(r: Reader) -> Reader
-    ensures { result ≡ start_end r }
+#[tactic(auto, unfolding(crate::specs::Source::start_end))]
+pub fn end_start(r: &mut Reader)
+    ensures { r.new ≡ start_end r.old }
 {
-    let f = r.field;
     if r.broken {
-        return r;
+        return;
     }
-    if f.digits & (r.count == 3) {
-        return lines::line::take_start(r);
+    if r.field.digits && r.count == 3 {
+        r.take_start();
+    } else {
+        r.break_line();
     }
-    lines::break_line(r)
 }
 
 // The start line, without its end.
+#[tactic(auto, unfolding(crate::specs::Source::start_read))]
 pub fn read_start(line: &[u8]) -> Reader
     ensures { result ≡ start_read line.now }
 {
-    let mut r = lines::open();
-    let mut i: usize = 0;
-    while i < line.len() {
-        let b = line[i];
-        r = lines::take_within(r, b);
-        i += 1;
+    let mut r = Reader::new();
+    for b in line {
+        r.take_within(*b);
     }
-    end_start(r)
+    end_start(&mut r);
+    r
 }
 
 // "of 13 and 18 the lowest line counts, 18 on a tie"
+#[tactic(auto, unfolding(crate::specs::Source::is18))]
 pub fn is_18(a: Counted, n: u64) -> bool
     ensures { result ≡ is18 a n }
 {
-    (0 < n) & !((a.refusal == 13) & (a.place < n))
+    0 < n && (a.refusal != 13 || n <= a.place)
 }
 
-// Lines count from the start line.
-pub fn judge(a: Counted, n: u64) -> Done
-    ensures { result ≡ judged a n }
+// What the assembler answered, at a line of the file: lines count from the start line.
+pub fn assembled(a: Counted) -> Result<(), Refused>
+    ensures { result ≡ assembler_answer a }
 {
-    if is_18(a, n) {
-        return Done {
-            refusal: 18,
-            place: lines::line::following_line(n),
-        };
-    }
     if a.refusal == 0 {
-        return Done {
-            refusal: 0,
-            place: 0,
-        };
+        return Ok(());
     }
-    Done {
-        refusal: a.refusal,
-        place: lines::line::following_line(a.place),
+    Err(Refused {
+        number: a.refusal,
+        place: following_line(a.place),
+    })
+}
+
+#[tactic(auto, using(crate::proofs::Fronts::fronts), unfolding(crate::specs::Source::judged))]
+pub fn judge(a: Counted, numeric: Option<u64>) -> Result<(), Refused>
+    ensures { result ≡ judged a numeric }
+{
+    match numeric {
+        Some(n) if is_18(a, n) => Err(Refused::from(Refusal::NumericLine(following_line(n)))),
+        _ => assembled(a),
     }
 }
 
-pub fn load(t: &[u8], cells: &mut [i64]) -> Loaded
+// What the start line says of a text, loaded into the cells.
+#[tactic(auto, using(crate::proofs::Fronts::fronts), unfolding(crate::specs::Source::loading, crate::specs::Source::start_good))]
+pub fn load(t: &[u8], cells: &mut [i64]) -> Result<Start, Refused>
     ensures { called result cells.new ≡ loading t.now cells.old }
 {
-    let n = expression::table::skip_inner(t, 0);
-    let r = read_start(&t[..n]);
-    let start = r.start;
-    if (expression::peek(t, n) == 10) & !r.broken {
-        let from = n + 1;
-        let a = assembler::assemble(&t[from..], cells);
-        let k = numeric::lowest_numeric(&t[from..]);
-        let d = judge(a, k);
-        return Loaded {
-            refusal: d.refusal,
-            place: d.place,
-            start,
-        };
+    let (line, rest) = split_line(t);
+    let r = read_start(line);
+    let [b'\n', program @ ..] = rest else {
+        return Err(Refused::from(Refusal::ImageLine(1)));
+    };
+    if r.broken {
+        return Err(Refused::from(Refusal::ImageLine(1)));
     }
-    Loaded {
-        refusal: 12,
-        place: 1,
-        start,
-    }
+    let a = assembler::assemble(program, cells);
+    judge(a, numeric::lowest_numeric(program))?;
+    Ok(r.start)
 }

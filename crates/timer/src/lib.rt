@@ -1,5 +1,5 @@
-// The timer on ports 120 and 121 (document 02, Card 14), by value.
-#![tactic(auto)]
+// The timer on ports 120 and 121 (document 02, Card 14), changed in place.
+#![tactic(auto, unfolding(definition::specs::Timer::interval_of, definition::specs::Timer::set_timer, definition::specs::Timer::tick, definition::specs::Timer::tick_entry, definition::specs::Timer::read_timer))]
 
 ghost use Rattle.std.specs.Prelude.{◌≡◌, false, pos};
 ghost use Rattle.definition.specs.Timer.{with_timer_mark, interval_of, set_timer, tick, tick_entry, read_timer};
@@ -15,74 +15,57 @@ pub const REMAINING_PORT: u32 = 121;
 fn interval_of(w: i64) -> u64
     ensures { result ≡ interval_of w }
 {
-    if w < 0 { 0 } else { w as u64 }
+    u64::try_from(w).unwrap_or(0)
 }
 
 // "Port 120 written sets interval and remaining cycles". "Turning the timer off keeps a mark already set."
-pub fn set(w: i64, t: Timer) -> Timer
-    ensures { result ≡ set_timer w t }
+pub fn set(t: &mut Timer, w: i64)
+    ensures { t.new ≡ set_timer w t.old }
 {
-    let n = interval_of(w);
-    Timer {
-        interval: n,
-        remaining: n,
-        mark: t.mark,
-    }
+    t.interval = interval_of(w);
+    t.remaining = t.interval;
 }
 
 // n cycles taken off what remains, "While the timer is on". "Where what is taken off leaves 0 or less, the timer's mark is set and the interval
 // starts afresh."
-pub fn tick(n: u64, t: Timer) -> Timer
-    ensures { result ≡ tick n t }
+pub fn tick(t: &mut Timer, n: u64)
+    ensures { t.new ≡ tick n t.old }
 {
-    if 0 < t.interval {
-        if n < t.remaining {
-            return Timer {
-                interval: t.interval,
-                remaining: t.remaining - n,
-                mark: t.mark,
-            };
-        }
-        return Timer {
-            interval: t.interval,
-            remaining: t.interval,
-            mark: true,
-        };
+    if t.interval == 0 {
+        return;
     }
-    t
+    if n < t.remaining {
+        t.remaining -= n;
+    } else {
+        t.remaining = t.interval;
+        t.mark = true;
+    }
 }
 
 // Entry by a code, in a step: "each exception step its one cycle; a handler entry by code 0 [...] takes off none".
-pub fn tick_entry(code: u32, t: Timer) -> Timer
-    ensures { result ≡ tick_entry code t }
+pub fn tick_entry(t: &mut Timer, code: u32)
+    ensures { t.new ≡ tick_entry code t.old }
 {
-    if code == 0 {
-        return t;
+    if code != 0 {
+        tick(t, 1);
     }
-    tick(1, t)
 }
 
 // "The poll takes [...] the timer's" mark.
-pub fn taken(t: Timer) -> Timer
-    ensures { result ≡ with_timer_mark false t }
+pub fn poll(t: &mut Timer) -> bool
+    ensures { (result ≡ t.old.mark) × (t.new ≡ with_timer_mark false t.old) }
 {
-    Timer {
-        interval: t.interval,
-        remaining: t.remaining,
-        mark: false,
-    }
+    std::mem::take(&mut t.mark)
 }
 
 // The word that a port reads: port 120 "gives the interval. Port 121 reads what remains". Any other port reads n, the console's answer.
-pub fn read_port(t: Timer, port: u32, n: u8) -> i64
-    requires { TimerIn t }
-    ensures { result ≡ pos (read_timer port t n) }
+pub fn read_port(t: &Timer, port: u32, n: u8) -> i64
+    requires { TimerIn t.now }
+    ensures { result ≡ pos (read_timer port t.now n) }
 {
-    if port == INTERVAL_PORT {
-        return t.interval as i64;
+    match port {
+        INTERVAL_PORT => t.interval as i64,
+        REMAINING_PORT => t.remaining as i64,
+        _ => n as i64,
     }
-    if port == REMAINING_PORT {
-        return t.remaining as i64;
-    }
-    n as i64
 }

@@ -1,14 +1,13 @@
--- One turn, with the list and the four buffers whole.
-use Rattle.std.specs.Prelude.{List, get_or, set}
-use Rattle.definition.specs.Calls.{Lent, Called, called}
+-- A bench as it is lent: a list with a record for each seat, and the four buffers whole.
+use Rattle.std.specs.Prelude.{◌≡◌, List, ℕ, length}
+use Rattle.definition.specs.Calls.{Lent}
 use Rattle.bench.specs.declared.Seat.{Seat}
-use Rattle.bench.specs.declared.clock.Clock.{Clock}
-use Rattle.bench.specs.Seat.{no_seat, after}
-use Rattle.bench.specs.Clock.{turn_of, next}
+use Rattle.bench.specs.Bench.{Bench, bench_of, bench_check}
 
--- The seat whose turn it is has it, its record is updated, and it is the next one's.
-unfoldable pub turn_call : List Seat → Lent → Clock → Called Clock (List Seat × Lent)
-turn_call list b c =
-    let s = get_or list c.at no_seat in
-    let t = turn_of s c b in
-    called (next c s t.answer) (set list c.at (after t.answer.steps t.answer.stop s), t.left)
+-- With so much left of the total.
+abbrev pub lent_bench : ℕ → List Seat → Lent → Bench
+lent_bench t list b = bench_of (length list) t list b
+
+-- It is not refused.
+abbrev pub IsAccepted : List Seat → Lent → Type 0
+IsAccepted list b = (bench_check (length list) (length list) b).refusal ≡ 0

@@ -1,8 +1,7 @@
 -- Cases at the edges, computed by the checker.
+use Rattle.std.specs.Prelude.{None, Some}
 use Rattle.std.proofs.Common.{◌≡◌, true, false, ℤ, pos, negsuc, ◌+ℤ◌, ◌-ℤ◌, ◌*ℤ◌, neg_ℤ, refl}
 use Rattle.definition.specs.Word.{wrap, is_word, wrapped, smallest, address_of, quotient, is_shift, shl_w, shr_w, put_bit, low_byte}
-use Rattle.definition.specs.declared.Quotient.TheVariants.{Rounded, NoQuotient}
-use Rattle.definition.specs.declared.Address.TheVariants.{At, NotAddress}
 
 abbrev greatest : ℤ
 greatest = pos 9223372036854775807
@@ -28,16 +27,16 @@ mul-over : wrapped (pos 4294967296 *ℤ pos 2147483648) ≡ record { value = sma
 unfolding wrapped wrap is_word
 mul-over = refl
 
-div-one : quotient smallest (pos 1) ≡ Rounded smallest
+div-one : quotient smallest (pos 1) ≡ Some smallest
 unfolding quotient
 div-one = refl
 
-div-minus-one : quotient smallest (negsuc 0) ≡ NoQuotient
+div-minus-one : quotient smallest (negsuc 0) ≡ None
 unfolding quotient
 div-minus-one = refl
 
 -- -7 / 2 is -3, and -7 >> 1 is -4
-div-rounds : quotient (negsuc 6) (pos 2) ≡ Rounded (negsuc 2)
+div-rounds : quotient (negsuc 6) (pos 2) ≡ Some (negsuc 2)
 unfolding quotient
 div-rounds = refl
 
@@ -57,11 +56,11 @@ shift-64 : is_shift (pos 64) ≡ false
 unfolding is_shift
 shift-64 = refl
 
-address-last : address_of (pos 4294967295) ≡ At 4294967295
+address-last : address_of (pos 4294967295) ≡ Some 4294967295
 unfolding address_of
 address-last = refl
 
-address-past : address_of (pos 4294967296) ≡ NotAddress
+address-past : address_of (pos 4294967296) ≡ None
 unfolding address_of
 address-past = refl
 

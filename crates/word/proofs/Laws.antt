@@ -1,4 +1,5 @@
 -- Laws of the operations on words: what the machine computes on 64 bits is what the definition says of numbers.
+use Rattle.std.specs.Prelude.{None, Some}
 use Rattle.std.proofs.Common.{◌≡◌, ℕ, zero, suc, ◌+◌, ◌-◌, ◌*◌, ◌/◌, ◌%◌, ◌^◌, ◌<◌, ◌≤◌, min, Bool, true, false, cond, not, ◌&&◌, ◌||◌, T, eqb, ltb, leb, ℤ, pos, negsuc, ◌+ℤ◌, ◌-ℤ◌, ◌*ℤ◌, neg_ℤ, nat_abs, sym, refl, ap, ◌∙◌, ap₂, true≢false, lt_of_lt_of_le, lt_of_le_of_lt, le_of_lt, mul-le-mul_right, mod-lt, mul_assoc, mul_comm, div-lt_iff_lt-mul, add-mul, mul-le-mul_left, one-mul, pow-suc, div-add-mod', le-div_iff_mul-le, zero-mul, mul-add, div-le_self, arith, pow_pos, pow_mono, shl_exact, to_z-of_z, w32, w64, Fits, SFits, to_z, of_z, ltb-false, ltb-true, le-ltb, lt-ltb, eq-eqb, ne_eqb, eqb-true}
 use mathlib.Core.Bool.{beq, and-true}
 use native.Mathlib.Nat.{mul-sub}
@@ -12,7 +13,6 @@ use mir.Facts.{to_z_pos, to_z-neg, sfits_lit}
 use borrow.Author.Tests.{eqb-false}
 use Rattle.definition.specs.Word.{bits, wrap, is_word, eq_z, address_of, smallest, not_w, digit}
 use Rattle.definition.specs.Encoding.{is_address}
-use Rattle.definition.specs.declared.Address.TheVariants.{At, NotAddress}
 use Rattle.definition.proofs.Bits.{bits-of_z, put, put-here, and-bit, or-bit}
 use Rattle.definition.proofs.Words.{is_word_lem}
 use Rattle.definition.proofs.Row.{address-in}
@@ -273,7 +273,7 @@ pub is_address_lem : (w : ℤ) → (le_z (pos 0) w && le_z w (pos 4294967295)) �
 unfolding address_of is_address
 is_address_lem (pos n) = rw (leb-zero n) (by (leb n 4294967295))
   where
-    by : (b : Bool) → b ≡ is_address (cond b (At n) NotAddress)
+    by : (b : Bool) → b ≡ is_address (cond b (Some n) None)
     by true = refl
     by false = refl
 is_address_lem (negsuc n) = refl
@@ -282,11 +282,11 @@ pub address-cast : (w : ℤ) → is_address (address_of w) ≡ true → T (non_n
 address-cast (pos n) h = (tt, omega (arith, (address-in (pos n) h).1))
 address-cast (negsuc n) h = absurd (true≢false (sym (is_address_lem (negsuc n) ∙ h)))
 
-pub address-by : (w : ℤ) {t : Bool} → is_address (address_of w) ≡ t → cond t (At (nat_abs w)) NotAddress ≡ address_of w
+pub address-by : (w : ℤ) {t : Bool} → is_address (address_of w) ≡ t → cond t (Some (nat_abs w)) None ≡ address_of w
 unfolding address_of is_address
 address-by (pos n) e = by (leb n 4294967295) e
   where
-    by : {t : Bool} (b : Bool) → is_address (cond b (At n) NotAddress) ≡ t → cond t (At n) NotAddress ≡ cond b (At n) NotAddress
+    by : {t : Bool} (b : Bool) → is_address (cond b (Some n) None) ≡ t → cond t (Some n) None ≡ cond b (Some n) None
     by true e = rw (← e)
     by false e = rw (← e)
 address-by (negsuc n) e = rw (← e)

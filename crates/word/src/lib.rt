@@ -8,31 +8,27 @@ ghost use Rattle.definition.specs.Word.{bits, wrapped, eq_z, address_of, quotien
 ghost use Rattle.definition.specs.Encoding.{is_address};
 ghost use Rattle.definition.specs.Total.{total};
 
-use definition::{Address, Quotient, Wrapped};
+use definition::Wrapped;
 
 // The word's bits: two's complement.
 pub fn to_bits(x: i64) -> u64
     ensures { result ≡ bits x }
 {
-    if x < 0 { !(!x as u64) } else { x as u64 }
+    x.cast_unsigned()
 }
 
 // The word that has these bits.
 pub fn of_bits(n: u64) -> i64
     ensures { result ≡ to_z w64 n }
 {
-    if n < 0x8000_0000_0000_0000 {
-        n as i64
-    } else {
-        !(!n as i64)
-    }
+    n.cast_signed()
 }
 
 // "add, sub, mul and neg wrap at 64 bits and set V": a sum overflows where both terms have one sign and the sum the other.
 pub fn add(a: i64, b: i64) -> Wrapped
     ensures { result ≡ wrapped (a +ℤ b) }
 {
-    let s = of_bits(std::num::wrapping_add_u64(to_bits(a), to_bits(b)));
+    let s = of_bits(to_bits(a).wrapping_add(to_bits(b)));
     Wrapped {
         value: s,
         overflow: ((a < 0) == (b < 0)) & ((s < 0) != (a < 0)),
@@ -43,7 +39,7 @@ pub fn add(a: i64, b: i64) -> Wrapped
 pub fn sub(a: i64, b: i64) -> Wrapped
     ensures { result ≡ wrapped (a -ℤ b) }
 {
-    let s = of_bits(std::num::wrapping_sub_u64(to_bits(a), to_bits(b)));
+    let s = of_bits(to_bits(a).wrapping_sub(to_bits(b)));
     Wrapped {
         value: s,
         overflow: ((a < 0) != (b < 0)) & ((s < 0) != (a < 0)),
@@ -51,6 +47,7 @@ pub fn sub(a: i64, b: i64) -> Wrapped
 }
 
 // Only the smallest word's negation is no word.
+#[tactic(auto, using(crate::proofs::Laws::back), unfolding(definition::specs::Word::wrapped, definition::specs::Word::wrap, definition::specs::Word::is_word))]
 pub fn neg(x: i64) -> Wrapped
     ensures { result ≡ wrapped (neg_ℤ x) }
 {
@@ -67,31 +64,26 @@ pub fn neg(x: i64) -> Wrapped
     }
 }
 
-// x * y modulo 2^64, by halves of 32 bits: the kit has no product that wraps.
+// x * y modulo 2^64
 pub fn wrapping_mul(x: u64, y: u64) -> u64
     ensures { result ≡ (x * y) % 2 ^ 64 }
 {
-    let xh = x >> 32;
-    let xl = x & 0xffff_ffff;
-    let yh = y >> 32;
-    let yl = y & 0xffff_ffff;
-    let mid = std::num::wrapping_add_u64(xh * yl, xl * yh);
-    std::num::wrapping_add_u64(xl * yl, mid << 32)
+    x.wrapping_mul(y)
 }
 
 // "stops at its largest number": the total of empty reads.
+#[tactic(auto, unfolding(definition::specs::Total::total))]
 pub fn total(t: u64, u: u64) -> u64
     ensures { result ≡ total t u }
 {
-    let most = 0xffff_ffff_ffff_ffff;
-    if t <= most - u { t + u } else { most }
+    t.saturating_add(u)
 }
 
 // The number without its sign.
 pub fn magnitude(x: i64) -> u64
     ensures { result ≡ unsigned_abs x }
 {
-    if x < 0 { (!x as u64) + 1 } else { x as u64 }
+    x.unsigned_abs()
 }
 
 // Whether m * n is above limit, by division, since the product may not fit.
@@ -117,17 +109,19 @@ pub fn mul(a: i64, b: i64) -> Wrapped
 }
 
 // "div is register / operand, rounded toward zero. Operand 0, or smallest word / -1, raises code 1."
-pub fn div(a: i64, b: i64) -> Quotient
+#[tactic(auto, using(crate::proofs::Laws::back), unfolding(definition::specs::Word::quotient))]
+pub fn div(a: i64, b: i64) -> Option<i64>
     ensures { result ≡ quotient a b }
 {
     if (b == 0) | (a == -0x8000_0000_0000_0000) & (b == -1) {
-        Quotient::NoQuotient
+        None
     } else {
-        Quotient::Rounded(a / b)
+        Some(a / b)
     }
 }
 
 // "Shift amounts are 0 to 63"
+#[tactic(auto, using(crate::proofs::Laws::back), unfolding(definition::specs::Word::is_shift))]
 pub fn is_shift(v: i64) -> bool
     ensures { result ≡ is_shift v }
 {
@@ -143,6 +137,7 @@ pub fn shl(x: i64, n: u32) -> i64
 }
 
 // "shr keeps the sign."
+#[tactic(auto, using(crate::proofs::Laws::back), unfolding(definition::specs::Word::shr_w))]
 pub fn shr(x: i64, n: u32) -> i64
     requires { n < 64 }
     ensures { result ≡ shr_w x n }
@@ -151,24 +146,28 @@ pub fn shr(x: i64, n: u32) -> i64
 }
 
 // and, or, xor and not, bit by bit.
+#[tactic(auto, using(crate::proofs::Laws::back), unfolding(definition::specs::Word::and_w))]
 pub fn and(a: i64, b: i64) -> i64
     ensures { result ≡ and_w a b }
 {
     a & b
 }
 
+#[tactic(auto, using(crate::proofs::Laws::back), unfolding(definition::specs::Word::or_w))]
 pub fn or(a: i64, b: i64) -> i64
     ensures { result ≡ or_w a b }
 {
     a | b
 }
 
+#[tactic(auto, using(crate::proofs::Laws::back), unfolding(definition::specs::Word::xor_w))]
 pub fn xor(a: i64, b: i64) -> i64
     ensures { result ≡ xor_w a b }
 {
     a ^ b
 }
 
+#[tactic(auto, using(crate::proofs::Laws::back), unfolding(definition::specs::Word::not_w))]
 pub fn not(x: i64) -> i64
     ensures { result ≡ not_w x }
 {
@@ -176,6 +175,7 @@ pub fn not(x: i64) -> i64
 }
 
 // "cmp sets Z if the words are equal and N if operand < register": the two tests.
+#[tactic(auto, using(crate::proofs::Laws::back))]
 pub fn eq(a: i64, b: i64) -> bool
     ensures { result ≡ eq_z a b }
 {
@@ -189,20 +189,17 @@ pub fn lt(a: i64, b: i64) -> bool
 }
 
 // "An address is a word 0 to 4,294,967,295."
+#[tactic(auto, using(crate::proofs::Laws::back), unfolding(definition::specs::Word::address_of, definition::specs::Encoding::is_address))]
 pub fn is_address(w: i64) -> bool
     ensures { result ≡ is_address (address_of w) }
 {
     (0 <= w) & (w <= 4294967295)
 }
 
-pub fn to_address(w: i64) -> Address
+pub fn to_address(w: i64) -> Option<u32>
     ensures { result ≡ address_of w }
 {
-    if is_address(w) {
-        Address::At(w as u32)
-    } else {
-        Address::NotAddress
-    }
+    if is_address(w) { Some(w as u32) } else { None }
 }
 
 // Bit k of w, from 0.
@@ -222,6 +219,7 @@ pub fn put_bit(w: i64, k: u64, on: bool) -> i64
 }
 
 // "out keeps the low 8 bits on port 111."
+#[tactic(auto, using(crate::proofs::Laws::back), unfolding(definition::specs::Word::low_byte))]
 pub fn low_byte(w: i64) -> u8
     ensures { result ≡ low_byte w }
 {

@@ -1,7 +1,7 @@
--- An address as the list of cells written: one that is outside stands for none.
-use Rattle.std.specs.Prelude.{cond, List, [], ◌∷◌, ℕ, ℤ, ltb}
-use Rattle.definition.specs.Memory.{cell_count}
+-- The address that is written, if one is, as the list of cells written.
+use Rattle.std.specs.Prelude.{List, [], ◌∷◌, ℕ, ℤ, Option, None, Some}
 use Rattle.journal.specs.Writes.{Held, held_at}
 
-abbrev pub written_at : List ℤ → ℕ → List Held
-written_at l n = cond (ltb n (cell_count l)) (held_at l n ∷ []) []
+abbrev pub written_at : List ℤ → Option ℕ → List Held
+written_at l None = []
+written_at l (Some n) = held_at l n ∷ []

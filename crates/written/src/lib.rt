@@ -2,142 +2,89 @@
 // stores up to the write.
 #![tactic(auto)]
 
-ghost use Rattle.std.specs.Prelude.{◌≡◌, true, false, List, ◌<◌, ◌≤◌, ℤ};
-ghost use Rattle.definition.specs.declared.Error.TheVariants.{Reset};
-ghost use Rattle.definition.specs.Constants.{CELLS-MOST};
+ghost use Rattle.std.specs.Prelude.{◌≡◌, ◌<◌, List, ℤ, IfSome};
 ghost use Rattle.definition.specs.Memory.{cell_count};
-ghost use Rattle.definition.specs.Registers.{reg_at};
 ghost use Rattle.definition.specs.Exec.{core};
-ghost use Rattle.definition.specs.Encoding.{op_at};
-ghost use Rattle.arguments.specs.Operands.{arg_of};
-ghost use Rattle.arguments.specs.Taken.{address_res};
 ghost use Rattle.journal.specs.Writes.{aim_push, aim_push_op, aim_st, aim_fas, aim_swap, aim, wrote_there};
+ghost use Rattle.registers.specs.Meaning.{res_of, core_of};
 ghost use Rattle.written.specs.Meaning.{written_at};
 
-use arguments::Arg;
-use arguments::taken::AddressTaken;
-use definition::{Error, Registers};
-
-// It comes to write at n.
-fn comes(s: Registers, n: u32) -> AddressTaken
-    ensures { result ≡ record { ok = true; error = Reset; value = n; s = s } }
-{
-    AddressTaken {
-        ok: true,
-        error: Error::Reset,
-        value: n,
-        s,
-    }
-}
-
-// It ends before, with this error.
-fn ends(s: Registers, error: Error) -> AddressTaken
-    ensures { result ≡ record { ok = false; error = error; value = 0; s = s } }
-{
-    AddressTaken {
-        ok: false,
-        error,
-        value: 0,
-        s,
-    }
-}
+use definition::{Error, Instruction, Op, Operand, Reg, Registers};
+use registers::Plan;
 
 // push and call: below sp
-fn push_cell(s: Registers) -> AddressTaken
-    ensures { (l : List ℤ) → address_res l result ≡ aim_push (core l s) }
+#[tactic(auto, unfolding(registers::specs::Meaning::res_of, journal::specs::Writes::aim_push))]
+fn push_cell(s: &Registers) -> Result<u32, Error>
+    ensures { (l : List ℤ) → res_of result (core l s.now) ≡ aim_push (core l s.now) }
 {
-    comes(s, registers::below(s.sp))
+    Ok(registers::below(s.sp))
 }
 
-fn push(cells: &[i64], s: Registers, x: Arg) -> AddressTaken
-    ensures { address_res cells.now result ≡ aim_push_op (arg_of x) (core cells.now s) }
+#[tactic(auto, unfolding(registers::specs::Meaning::res_of, journal::specs::Writes::aim_push_op, definition::specs::Exec::and_then))]
+fn push(cells: &[i64], p: &mut Plan, x: Operand) -> Result<u32, Error>
+    ensures value { res_of result (core_of cells.now p.new) ≡ aim_push_op x (core_of cells.now p.old) }
+    ensures write { p.new.write ≡ p.old.write }
 {
-    let given = arguments::cell_of(cells, s, x);
-    let t = given.s;
-    if given.ok {
-        return push_cell(t);
-    }
-    let error = given.error;
-    ends(t, error)
+    arguments::cell_of(cells, p, x)?;
+    push_cell(&p.s)
 }
 
-fn st(s: Registers, r: u32, y: Arg) -> AddressTaken
-    ensures { (l : List ℤ) → address_res l result ≡ aim_st (reg_at r) (arg_of y) (core l s) }
+#[tactic(auto, unfolding(registers::specs::Meaning::res_of, journal::specs::Writes::aim_st, definition::specs::Exec::and_then))]
+fn st(s: &mut Registers, r: Reg, y: Operand) -> Result<u32, Error>
+    ensures { (l : List ℤ) → res_of result (core l s.new) ≡ aim_st r y (core l s.old) }
 {
-    let given = arguments::register_word(s, r);
-    let t = given.s;
-    if given.ok {
-        return arguments::address_of(t, y);
-    }
-    let error = given.error;
-    ends(t, error)
+    arguments::register_word(s, r)?;
+    arguments::place_of(s, y)
 }
 
-fn fas(cells: &[i64], s: Registers, x: Arg) -> AddressTaken
-    ensures { address_res cells.now result ≡ aim_fas (arg_of x) (core cells.now s) }
+#[tactic(auto, unfolding(registers::specs::Meaning::res_of, journal::specs::Writes::aim_fas, definition::specs::Exec::and_then))]
+fn fas(cells: &[i64], p: &mut Plan, x: Operand) -> Result<u32, Error>
+    ensures value { res_of result (core_of cells.now p.new) ≡ aim_fas x (core_of cells.now p.old) }
+    ensures write { p.new.write ≡ p.old.write }
 {
-    let place = arguments::address_of(s, x);
-    let t = place.s;
-    if place.ok {
-        let old = arguments::read(cells, t, place.value);
-        let u = old.s;
-        if old.ok {
-            return comes(u, place.value);
-        }
-        let error = old.error;
-        return ends(u, error);
-    }
-    let error = place.error;
-    ends(t, error)
+    let n = arguments::place_of(&mut p.s, x)?;
+    arguments::read(cells, p, n)?;
+    Ok(n)
 }
 
 // "swap writes its register first and resolves the memory address from the new registers."
-fn swap(cells: &[i64], s: Registers, x: Arg, r: u32) -> AddressTaken
-    ensures { address_res cells.now result ≡ aim_swap (arg_of x) (reg_at r) (core cells.now s) }
+#[tactic(auto, using(registers::proofs::Laws::settled_is), unfolding(registers::specs::Meaning::res_of, journal::specs::Writes::aim_swap, definition::specs::Exec::and_then))]
+fn swap(cells: &[i64], p: &mut Plan, x: Operand, r: Reg) -> Result<u32, Error>
+    ensures value { res_of result (core_of cells.now p.new) ≡ aim_swap x r (core_of cells.now p.old) }
+    ensures write { p.new.write ≡ p.old.write }
 {
-    let given = arguments::cell_of(cells, s, x);
-    let t = given.s;
-    if given.ok {
-        let v = given.value;
-        let q = registers::put_reg(t, r, v);
-        let u = q.s;
-        if q.ok {
-            return arguments::address_of(u, x);
-        }
-        let error = q.error;
-        return ends(u, error);
-    }
-    let error = given.error;
-    ends(t, error)
+    let v = arguments::cell_of(cells, p, x)?;
+    registers::put_reg(&mut p.s, r, v)?;
+    arguments::place_of(&mut p.s, x)
 }
 
 // The five that write: call, fas, push, st and swap.
-pub fn place(cells: &[i64], s: Registers, op: u32, x: Arg, y: Arg) -> AddressTaken
-    requires { op < 33 }
-    ensures { address_res cells.now result ≡ aim (op_at op) (arg_of x) (arg_of y) (reg_at x.reg) (reg_at y.reg) (core cells.now s) }
+#[tactic(auto, using(crate::proofs::Laws::aim_nowhere), unfolding(registers::specs::Meaning::res_of, journal::specs::Writes::aim))]
+pub fn place(cells: &[i64], p: &mut Plan, i: Instruction) -> Result<u32, Error>
+    ensures value { res_of result (core_of cells.now p.new) ≡ aim i.op i.x i.y i.r1 i.r2 (core_of cells.now p.old) }
+    ensures write { p.new.write ≡ p.old.write }
 {
-    match op {
-        2 => push_cell(s),
-        5 => fas(cells, s, x),
-        22 => push(cells, s, x),
-        28 => st(s, x.reg, y),
-        30 => swap(cells, s, x, y.reg),
-        _ => ends(s, Error::InvalidInstruction),
+    match i.op {
+        Op::Call => push_cell(&p.s),
+        Op::Fas => fas(cells, p, i.x),
+        Op::Push => push(cells, p, i.x),
+        Op::St => st(&mut p.s, i.r1, i.y),
+        Op::Swap => swap(cells, p, i.x, i.r2),
+        _ => Err(Error::InvalidInstruction),
     }
 }
 
-// The address that the instruction writes, NO_CELL where it writes none: `guard` is the first address that the step may write.
-pub fn written_at(cells: &[i64], guard: u32, s: Registers, op: u32, x: Arg, y: Arg) -> u32
-    requires { (cell_count cells.now ≤ CELLS-MOST) × (op < 33) }
-    ensures { written_at cells.now result ≡ wrote_there guard cells.now (aim (op_at op) (arg_of x) (arg_of y) (reg_at x.reg) (reg_at y.reg) (core cells.now s)) }
+// The address that the instruction writes, if it writes one: `guard` is the first address that the step may write. The plan `p` is what the
+// fetch has left.
+#[tactic(auto, unfolding(registers::specs::Meaning::res_of, journal::specs::Writes::wrote_there, definition::specs::Exec::permits))]
+pub fn written_at(cells: &[i64], guard: u32, mut p: Plan, i: Instruction) -> Option<u32>
+    ensures value { written_at cells.now result ≡ wrote_there guard cells.now (aim i.op i.x i.y i.r1 i.r2 (core_of cells.now p)) }
+    ensures inside { IfSome result (λ n. n < cell_count cells.now) }
 {
-    let t = place(cells, s, op, x, y);
-    if t.ok {
-        let n = t.value;
-        let at = n as usize;
-        if (at < cells.len() / 3) & (guard <= n) {
-            return n;
-        }
+    let n = place(cells, &mut p, i).ok()?;
+    if (n as usize) < cells.len() / 3 && guard <= n {
+        Some(n)
+    } else {
+        None
     }
-    memory::NO_CELL
 }

@@ -1,4 +1,4 @@
--- What run answers where it is refused, and raise on what it is lent.
+-- Raise on what it is lent.
 use mathlib.Core.Path.{◌≡◌, refl, sym, ap, ◌∙◌, subst}
 use mathlib.Core.Bool.{Bool, true, false, cond}
 use mathlib.Core.List.{List, []}
@@ -8,85 +8,69 @@ use lib.IntN.{ℤ}
 use lib.Dec.{ltb}
 use borrow.Author.Tests.{ltb-true}
 use Rattle.definition.specs.Constants.{CYCLES-END}
-use Rattle.definition.specs.Exec.{core}
 use Rattle.definition.specs.Runtime as M
 use Rattle.definition.specs.Runtime.{Machine, machine}
-use Rattle.definition.specs.Calls.{machine_of, row_of, called, passes, Lent, lent_machine, run_check, ran, run_refused, run_call, raise_check, quiet_machine, raised, raise}
-use Rattle.console.specs.Meaning.{console_of}
-use Rattle.runtime.specs.declared.State.{State}
-use Rattle.runtime.specs.declared.Stepped.{Stepped}
-use Rattle.runtime.specs.Meaning.{machine_at, outcome_at, stepped_of}
-use Rattle.machine.specs.Meaning.{row_state}
+use Rattle.definition.specs.Calls.{machine_of, row_of, accepted, called, passes, raise_check, raise_answer, raised, raise}
+use Rattle.row.specs.declared.State.{State}
+use Rattle.row.specs.Meaning.{row_state, machine_at}
 
-pub run-refused : (b : ℕ) (l : Lent) → passes (run_check l) ≡ false → called (record { refusal = (run_check l).refusal; place = (run_check l).place; stop = 0; detail = 0; steps = 0; empty = 0 }) l ≡ run_call b l
-unfolding run_call run_refused
-run-refused b l h = sym (ap (λ (t : Bool). cond t (ran (M.run b (lent_machine l))) (run_refused (run_check l) l)) h)
-
--- ---- raise
-
+-- what a raise from the state m comes to
 abbrev pub raised_from : List ℤ → ℕ → State → M.Outcome
 raised_from l code m = M.limit (machine_at l [] [] m) (M.recover code (machine_at l [] [] m))
 
-module _ (l row : List ℤ) (code : ℕ) (l' : List ℤ) (x : Stepped) (h : stepped_of l' [] [] x ≡ raised_from l code (row_state row)) where
-  abbrev before : Machine
+module _ (l row : List ℤ) (code : ℕ) (p : accepted ≡ raise_check l row code) where
+  abbrev pub before : Machine
   before = machine_at l [] [] (row_state row)
 
-  abbrev after : Machine
-  after = machine_at l' [] [] x.m
+  abbrev pub outcome : M.Outcome
+  outcome = raised_from l code (row_state row)
 
-  outcome-is : (b : Bool) → x.completed ≡ b → outcome_at b x.stop x.detail after ≡ M.limit before (M.recover code before)
-  outcome-is b e = ap (λ (c : Bool). outcome_at c x.stop x.detail after) (sym e) ∙ h
-
-  raise-is : passes (raise_check l row code) ≡ true → raised l row (M.limit before (M.recover code before)) ≡ raise l row code
+  raise-is : raised l row outcome ≡ raise l row code
   unfolding raise machine_of
-  raise-is p =
-      sym (ap (λ (t : Bool). cond t (raised l row (M.limit before (M.recover code before))) (called (record { refusal = (raise_check l row code).refusal; place = (raise_check l row code).place; stop = 0; detail = 0 }) (l, row))) p)
+  raise-is =
+      sym (ap (λ (t : Bool). cond t (raised l row outcome) (called (raise_answer (raise_check l row code) 0 0) (l, row))) (sym (ap passes p)))
 
-  pub raise-done : passes (raise_check l row code) ≡ true → x.completed ≡ true → (row' : List ℤ) → row' ≡ row_of (machine (core [] x.m.s) x.m.cycles (console_of x.m.k [] []) x.m.fence x.m.timer) → called (record { refusal = 0; place = 0; stop = 0; detail = 0 }) (l', row') ≡ raise l row code
-  unfolding raised row_of
-  raise-done p c row' f =
-      (λ i. called (record { refusal = 0; place = 0; stop = 0; detail = 0 }) (l', f i)) ∙ ap (raised l row) (outcome-is true c) ∙ raise-is p
+  -- the row written anew looks at no list
+  row-same : (l' : List ℤ) (m : State) → row_of (machine_at [] [] [] m) ≡ row_of (machine_at l' [] [] m)
+  unfolding row_of
+  row-same l' m = refl
+
+  pub raise-done : (l' : List ℤ) (m : State) (row' : List ℤ) → M.completed (machine_at l' [] [] m) ≡ outcome → row' ≡ row_of (machine_at [] [] [] m) → called (raise_answer accepted 0 0) (l', row') ≡ raise l row code
+  unfolding raised
+  raise-done l' m row' h f =
+      ap (λ (x : List ℤ). called (raise_answer accepted 0 0) (l', x)) (f ∙ row-same l' m) ∙ ap (raised l row) h ∙ raise-is
 
   -- a raise that stops leaves the machine
-  stopped-same : (m y : Machine) (n d : ℕ) → M.stopped n d y ≡ M.limit m (M.recover code m) → y ≡ m
+  stopped-same : (y : Machine) (n d : ℕ) → M.stopped n d y ≡ outcome → y ≡ before
   unfolding M.limit M.recover M.reached
-  stopped-same m y n d e = go (ltb (M.reached (M.recover code m)).cycles CYCLES-END) (M.has_handler m.core.cells) e
+  stopped-same y n d e = go (ltb (M.reached (M.recover code before)).cycles CYCLES-END) (M.has_handler before.core.cells) e
     where
-      go : (b c : Bool) → M.stopped n d y ≡ cond b (cond c (M.completed (M.entered code m)) (M.stopped 2 code m)) (M.stopped 7 0 m) → y ≡ m
-      go true true f = let z : ◌≡◌ {A = ℕ} 0 1 = cc in absurd (omega arith)
+      go : (b c : Bool) → M.stopped n d y ≡ cond b (cond c (M.completed (M.entered code before)) (M.stopped 2 code before)) (M.stopped 7 0 before) → y ≡ before
+      go true true f = cc
       go true false f = ap M.reached f
       go false c f = ap M.reached f
 
-  pub raise-stopped : passes (raise_check l row code) ≡ true → x.completed ≡ false → called (record { refusal = 0; place = 0; stop = x.stop; detail = x.detail }) (l', row) ≡ raise l row code
+  pub raise-stopped : (l' : List ℤ) (m : State) (n d : ℕ) → M.stopped n d (machine_at l' [] [] m) ≡ outcome → called (raise_answer accepted n d) (l', row) ≡ raise l row code
   unfolding raised
-  raise-stopped p c =
-      ap (λ (m : Machine). called (record { refusal = 0; place = 0; stop = x.stop; detail = x.detail }) (m.core.cells, row)) (stopped-same before after x.stop x.detail (outcome-is false c))
-      ∙ ap (raised l row) (outcome-is false c)
-      ∙ raise-is p
+  raise-stopped l' m n d h =
+      ap (λ (x : Machine). called (raise_answer accepted n d) (x.core.cells, row)) (stopped-same (machine_at l' [] [] m) n d h) ∙ ap (raised l row) h ∙ raise-is
 
   -- what a raise that is done leaves fits the row
-  limit-done : (m x : Machine) (o : M.Outcome) → M.completed x ≡ M.limit m o → (M.completed x ≡ o) × (x.cycles < CYCLES-END)
+  limit-done : (x : Machine) (o : M.Outcome) → M.completed x ≡ M.limit before o → (M.completed x ≡ o) × (x.cycles < CYCLES-END)
   unfolding M.limit M.reached
-  limit-done m x o e = go (ltb (M.reached o).cycles CYCLES-END) refl e
+  limit-done x o e = go (ltb (M.reached o).cycles CYCLES-END) refl e
     where
-      go : (b : Bool) → ltb (M.reached o).cycles CYCLES-END ≡ b → M.completed x ≡ cond b o (M.stopped 7 0 m) → (M.completed x ≡ o) × (x.cycles < CYCLES-END)
+      go : (b : Bool) → ltb (M.reached o).cycles CYCLES-END ≡ b → M.completed x ≡ cond b o (M.stopped 7 0 before) → (M.completed x ≡ o) × (x.cycles < CYCLES-END)
       go true t f = (f, subst (λ (y : M.Outcome). (M.reached y).cycles < CYCLES-END) (sym f) (ltb-true _ _ t))
       go false t f = let z : ◌≡◌ {A = ℕ} 0 1 = cc in absurd (omega arith)
 
-  recover-done : (m x : Machine) → M.completed x ≡ M.recover code m → (x.console ≡ m.console) × (x.timer ≡ m.timer)
+  recover-done : (x : Machine) → M.completed x ≡ M.recover code before → (x.console ≡ before.console) × (x.timer ≡ before.timer)
   unfolding M.recover M.entered M.reached
-  recover-done m x e = go (M.has_handler m.core.cells) e
+  recover-done x e = go (M.has_handler before.core.cells) e
     where
-      go : (b : Bool) → M.completed x ≡ cond b (M.completed (M.entered code m)) (M.stopped 2 code m) → (x.console ≡ m.console) × (x.timer ≡ m.timer)
+      go : (b : Bool) → M.completed x ≡ cond b (M.completed (M.entered code before)) (M.stopped 2 code before) → (x.console ≡ before.console) × (x.timer ≡ before.timer)
       go true f = (ap (λ (y : M.Outcome). (M.reached y).console) f, ap (λ (y : M.Outcome). (M.reached y).timer) f)
       go false f = let z : ◌≡◌ {A = ℕ} 0 1 = cc in absurd (omega arith)
 
-  pub raise-fits : x.completed ≡ true → (x.m.cycles < CYCLES-END) × ((after.console ≡ before.console) × (after.timer ≡ before.timer))
-  raise-fits c =
-      let p = limit-done before after (M.recover code before) (outcome-is true c) in
-      (p.1, recover-done before after p.0)
-
-pub raise-refused : (l row : List ℤ) (code : ℕ) → passes (raise_check l row code) ≡ false → called (record { refusal = (raise_check l row code).refusal; place = (raise_check l row code).place; stop = 0; detail = 0 }) (l, row) ≡ raise l row code
-unfolding raise
-raise-refused l row code h =
-    sym (ap (λ (t : Bool). cond t (raised l row (M.limit (quiet_machine l row) (M.recover code (quiet_machine l row)))) (called (record { refusal = (raise_check l row code).refusal; place = (raise_check l row code).place; stop = 0; detail = 0 }) (l, row))) h)
+  pub raise-fits : (x : Machine) → M.completed x ≡ outcome → (x.cycles < CYCLES-END) × ((x.console ≡ before.console) × (x.timer ≡ before.timer))
+  raise-fits x h = let d = limit-done x (M.recover code before) h in (d.1, recover-done x d.0)

@@ -4,6 +4,7 @@ ghost use Rattle.definition.specs.Calls.{called, lent};
 ghost use Rattle.bench.specs.Bench.{bench_call};
 
 use bench::{Benched, Seat};
+use seats::Buffers;
 
 // "A whole class runs under one step total. [...] The answer is what is left of the total." The tests are made, and turns are taken until the total is
 // spent or nobody can go on. The list stays lent.
@@ -18,10 +19,13 @@ pub fn z33_bench(
 ) -> Benched
     ensures { called result (list.new, lent cells.new queues.new outputs.new rows.new) ≡ bench_call seats total list.old (lent cells.old queues.old outputs.old rows.old) }
 {
-    let n = list.len();
-    let c = seats::begin(n, cells, queues, outputs, rows, seats, total);
-    let e = turns::rounds(list, cells, queues, outputs, rows, c);
-    bench::clock::answer(e)
+    let mut buffers = Buffers {
+        cells,
+        queues,
+        outputs,
+        rows,
+    };
+    turns::run(list, &mut buffers, seats, total).into()
 }
 
 // "A bench record stored in 32 bits is taken over with every number equal."

@@ -7,11 +7,11 @@ use definition::{CellRead, Done};
 pub fn z33_load(cells: &mut [i64], image: &[i64], start: u64) -> Done
     ensures { called result cells.new ≡ load cells.old image.now start }
 {
-    calls::cells::load(cells, image, start)
+    calls::cells::load(cells, image, start).into()
 }
 
 pub fn z33_read_cell(cells: &[i64], address: u64) -> CellRead
     ensures { result ≡ read_cell cells.now address }
 {
-    calls::cells::read_cell(cells, address)
+    calls::cells::read_cell(cells, address).into()
 }

@@ -7,5 +7,5 @@ use definition::Done;
 pub fn z33_fresh(cells: &mut [i64], row: &mut [i64]) -> Done
     ensures { called result (cells.new, row.new) ≡ fresh cells.old row.old }
 {
-    calls::fresh::fresh(cells, row)
+    calls::fresh::fresh(cells, row).into()
 }

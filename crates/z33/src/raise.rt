@@ -1,41 +1,40 @@
 // "raise a code (cells, row)": `recover_from_exception` and its one cycle.
 ghost use Rattle.std.specs.Prelude.{◌≡◌};
-ghost use Rattle.definition.specs.Calls.{called, raise};
+ghost use Rattle.definition.specs.Calls.{accepted, called, raise, raise_check};
 
 use definition::Raised;
+use row::State;
 
-// A raise that stops changes nothing.
-pub fn z33_raise(cells: &mut [i64], row: &mut [i64], code: u64) -> Raised
+// A raise that isn't refused. One that stops changes nothing.
+fn raise_accepted(cells: &mut [i64], row: &mut [i64], code: u64) -> Raised
+    requires { accepted ≡ raise_check cells.old row.old code }
     ensures { called result (cells.new, row.new) ≡ raise cells.old row.old code }
 {
-    let d = refusals::raise_check(cells, row, code);
-    if d.refusal == 0 {
-        let m = machine::state(row);
-        let x = runtime::raise::raise(cells, m, code as u32);
-        if x.completed {
-            let after = x.m;
-            let s = after.s;
-            let k = after.k;
-            let timer = after.timer;
-            row::write_row(row, s, after.cycles, k, after.fence, timer);
-            return Raised {
+    let mut m = State::from_row(row);
+    match runtime::settle::raise(cells, &mut m, code as u32) {
+        Ok(()) => {
+            row::write_row(row, &m);
+            Raised {
                 refusal: 0,
                 place: 0,
                 stop: 0,
                 detail: 0,
-            };
+            }
         }
-        return Raised {
+        Err(x) => Raised {
             refusal: 0,
             place: 0,
-            stop: x.stop as u64,
-            detail: x.detail as u64,
-        };
+            stop: x.number.into(),
+            detail: x.detail.into(),
+        },
     }
-    Raised {
-        refusal: d.refusal,
-        place: d.place,
-        stop: 0,
-        detail: 0,
+}
+
+pub fn z33_raise(cells: &mut [i64], row: &mut [i64], code: u64) -> Raised
+    ensures { called result (cells.new, row.new) ≡ raise cells.old row.old code }
+{
+    match refusals::raise_check(cells, row, code) {
+        Ok(()) => raise_accepted(cells, row, code),
+        Err(refusal) => refusal.into(),
     }
 }

@@ -14,16 +14,8 @@ pub fn z33_run(
 ) -> Ran
     ensures { called result (lent cells.new queue.new output.new row.new) ≡ run_call budget (lent cells.old queue.old output.old row.old) }
 {
-    let d = refusals::run_check(cells, queue, output, row);
-    if d.refusal == 0 {
-        return machine::run(cells, queue, output, row, budget);
-    }
-    Ran {
-        refusal: d.refusal,
-        place: d.place,
-        stop: 0,
-        detail: 0,
-        steps: 0,
-        empty: 0,
+    match refusals::run_check(cells, queue, output, row) {
+        Ok(()) => machine::run(cells, queue, output, row, budget),
+        Err(refusal) => refusal.into(),
     }
 }

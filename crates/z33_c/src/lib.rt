@@ -1,5 +1,5 @@
 // The calls on numbers and slices, exported as C functions for the static library: each calls crate z33's function of the same name and states its
-// clauses again. include/z33.h declares them.
+// clauses again, since a crate is built as a library or as a static library and not as both. include/z33.h declares them.
 #![tactic(auto)]
 
 ghost use Rattle.std.specs.Prelude.{◌≡◌};

@@ -1,17 +1,14 @@
-use mathlib.Core.Path.{◌≡◌, ap, ◌∙◌}
-use native.Mathlib.Omega.{arith}
-use borrow.Author.Rules.{rules}
-use Rattle.journal.specs.Calls.{held_fit}
-use Rattle.back.proofs.Laws.{none_more, one_more}
+use Rattle.std.proofs.Common.{arith, ◌∙◌}
+use Rattle.back.proofs.Laws.{fit-on, fit-off, fit-none}
 use Rattle.back.proofs.held_fit.Goals as goal
 
-pub loop-i-init : goal.loop-i-init
-loop-i-init c = (search rules, none_more _ _)
+pub returns-then-not-held_fits : goal.returns-then-not-held_fits
+returns-then-not-held_fits c =
+    fit-off c.args.n c.args.kept.now c.loop-i.i (omega arith) c.held_fits.ensures c.if-not-held_fits.true ∙ c.loop-i.invariant
 
 pub loop-i-preserved : goal.loop-i-preserved
-loop-i-preserved c = (search rules, one_more _ _ _ c.held_fits-fit.ensures c.loop-i.invariant.1)
+loop-i-preserved c =
+    fit-on c.args.n c.args.kept.now c.loop-i.i (omega arith) c.held_fits.ensures c.if-not-held_fits.false ∙ c.loop-i.invariant
 
 pub returns : goal.returns
-returns c =
-    let e : c.loop-i.i ≡ c.args.k = omega arith in
-    c.loop-i.invariant.1 ∙ ap (held_fit _ _) e
+returns c = fit-none c.args.n c.args.kept.now c.loop-i.i (omega arith) ∙ c.loop-i.invariant

@@ -1,7 +1,8 @@
-use Rattle.std.proofs.Common.{ℕ, ◌%◌, List, get_or, ap}
-use Rattle.exercise.specs.Exercise.{form_of}
+use Rattle.std.proofs.Common.{refl}
+use Rattle.definition.specs.Encoding.{legal, allows, signature, op_at}
+use Rattle.exercise.specs.Exercise.{form_of, forms, forms_from}
 use Rattle.exercise.proofs.form_of.Goals as goal
 
 pub returns : goal.returns
-unfolding form_of
-returns c = ap (λ (l : List ℕ). get_or l (c.args.d % 124) 0) c.requires
+unfolding form_of forms forms_from legal allows signature op_at
+returns c = refl

@@ -1,28 +1,27 @@
-use Rattle.std.proofs.Common.{◌≡◌, ◌+◌, ◌*◌, drop}
-use Rattle.expression.specs.Reader.{product_level, sum_level, read_atom, read_product, read_sum}
+use Rattle.std.proofs.Common.{◌≡◌, ◌+◌, ◌*◌, ℕ, length}
+use Rattle.expression.specs.declared.Level.{Level}
+use Rattle.expression.specs.declared.Level.TheVariants.{Sum, Product}
+use Rattle.expression.specs.Reader.{chained, links}
 use Rattle.expression.specs.Values.{values, no_labels}
-use Rattle.expression.specs.Table.{lookup}
-use Rattle.expression.specs.Code.{told, Forward}
-use Rattle.expression.proofs.Laws.{left, chain-of}
+use Rattle.expression.specs.Labels.{lookup}
+use Rattle.expression.specs.Code.{level_of, operand_of}
 use Rattle.expression.proofs.+atom_product_sum.Given as goal
 
+abbrev pub rank : Level → ℕ
+rank Sum = 2
+rank Product = 0
+
 abbrev pub decreases-atom : goal.decreases-atom
-decreases-atom l = 3 * l.depth
+decreases-atom l = 5 * l.depth
 
-abbrev pub decreases-product : goal.decreases-product
-decreases-product l = 3 * l.depth + 1
+abbrev pub decreases-operand : goal.decreases-operand
+decreases-operand l = 5 * l.depth + rank l.level + 1
 
-abbrev pub decreases-sum : goal.decreases-sum
-decreases-sum l = 3 * l.depth + 2
+abbrev pub decreases-links : goal.decreases-links
+decreases-links l = 5 * l.depth + rank l.level + 2
 
-abbrev pub invariant-product-loop-m : goal.invariant-product-loop-m
-invariant-product-loop-m l = Forward l.at l.s l.r × (chain-of (product_level (values no_labels)) (read_atom (values (lookup l.s l.labels)) l.depth) (told l.s l.r) ≡ read_product (values (lookup l.s l.labels)) l.depth (drop l.at l.s))
+abbrev pub invariant-links-loop-operator : goal.invariant-links-loop-operator
+invariant-links-loop-operator l = chained (level_of (values no_labels) l.level) (operand_of (values (lookup l.labels)) l.level l.depth) l.value l.rest ≡ links (level_of (values no_labels) l.level) (operand_of (values (lookup l.labels)) l.level l.depth) l.s
 
-abbrev pub decreases-product-loop-m : goal.decreases-product-loop-m
-decreases-product-loop-m l = left l.s l.r
-
-abbrev pub invariant-sum-loop-m : goal.invariant-sum-loop-m
-invariant-sum-loop-m l = Forward l.at l.s l.r × (chain-of (sum_level (values no_labels)) (read_product (values (lookup l.s l.labels)) l.depth) (told l.s l.r) ≡ read_sum (values (lookup l.s l.labels)) l.depth (drop l.at l.s))
-
-abbrev pub decreases-sum-loop-m : goal.decreases-sum-loop-m
-decreases-sum-loop-m l = left l.s l.r
+abbrev pub decreases-links-loop-operator : goal.decreases-links-loop-operator
+decreases-links-loop-operator l = length l.rest

@@ -1,22 +1,38 @@
-use native.Mathlib.Omega.{arith}
-use Rattle.expression.specs.Reader.{is_digit, is_letter}
-use mathlib.Core.Path.{◌∙◌, sym}
-use Rattle.expression.proofs.Places.{tested, inside-byte}
-use Rattle.expression.specs.Table.{lookup}
-use Rattle.expression.proofs.Laws.{read_as, leaf-number, leaf-label, leaf-none, minus-read}
+use Rattle.std.proofs.Common.{◌≡◌, ◌<◌, ◌≤◌, get_or, true, sym, ap, ◌∙◌, arith}
+use Rattle.expression.specs.Reader.{numbered}
+use Rattle.expression.specs.Values.{values, no_labels}
+use Rattle.expression.specs.Labels.{lookup}
+use Rattle.expression.proofs.Spans.{first-is, rest-is, empty-first}
+use Rattle.expression.proofs.Laws.{leaf-number, leaf-label, leaf-minus, leaf_other, digit-first, no-digit-below, no-digit-past, letter-first, no-letter-below, no-letter-past}
+use Rattle.expression.proofs.leaf.Goals.{in_default-via-then-s-lt1, in_default-via-else-s-lt1+in_default+then-s-lt48, in_default-via-else-s-lt1+in_default+else-s-lt48+else-s-lt58+then-s-lt97, in_default-via-else-s-lt1+in_default+else-s-lt48+else-s-lt58+else-s-lt97+else-s-lt123}
 use Rattle.expression.proofs.leaf.Goals as goal
 
-pub returns-then-is_digit : goal.returns-then-is_digit
-returns-then-is_digit c = read_as (leaf-number (lookup c.args.s.now c.args.labels.now) _ (tested is_digit c.is_digit.ensures c.peek-b.ensures c.if-is_digit.true)) c.number.ensures
+pub returns-in-45 : goal.returns-in-45
+returns-in-45 c =
+    let t = c.args.s.now in
+    let e : get_or t 0 0 ≡ 45 = search arith in
+    c.number.ensures ∙ ap (numbered (values no_labels) true) (rest-is t) ∙ leaf-minus (lookup c.args.labels.now) t (no-digit-below t (omega (arith, e))) (no-letter-below t (omega (arith, e))) (sym (first-is t) ∙ e)
 
-pub returns-then-is_letter : goal.returns-then-is_letter
-returns-then-is_letter c = read_as (leaf-label (lookup c.args.s.now c.args.labels.now) _ (tested is_digit c.is_digit.ensures c.peek-b.ensures c.if-is_digit.false) (tested is_letter c.is_letter.ensures c.peek-b.ensures c.if-is_letter.true)) c.label.ensures
+pub returns-in-48-to-57 : goal.returns-in-48-to-57
+returns-in-48-to-57 c = c.number-in-48-to-57.ensures ∙ leaf-number (lookup c.args.labels.now) c.args.s.now (digit-first c.args.s.now (search arith) (search arith))
 
-pub number-requires-then-b-eq45 : goal.number-requires-then-b-eq45
-number-requires-then-b-eq45 c = let h = inside-byte c.args.s.now c.args.at 45 (sym c.peek-b.ensures ∙ c.if-b-eq45.true) (omega arith) in omega arith
+pub returns-in-97-to-122 : goal.returns-in-97-to-122
+returns-in-97-to-122 c = c.label.ensures ∙ leaf-label (lookup c.args.labels.now) c.args.s.now (no-digit-past c.args.s.now (search arith)) (letter-first c.args.s.now (search arith) (search arith))
 
-pub returns-then-b-eq45 : goal.returns-then-b-eq45
-returns-then-b-eq45 c = minus-read (lookup c.args.s.now c.args.labels.now) c.args.s.now c.args.at c.number-then-b-eq45.result (tested is_digit c.is_digit.ensures c.peek-b.ensures c.if-is_digit.false) (tested is_letter c.is_letter.ensures c.peek-b.ensures c.if-is_letter.false) (sym c.peek-b.ensures ∙ c.if-b-eq45.true) c.number-then-b-eq45.ensures
-
-pub returns : goal.returns
-returns c = record { same = leaf-none (lookup c.args.s.now c.args.labels.now) _ (tested is_digit c.is_digit.ensures c.peek-b.ensures c.if-is_digit.false) (tested is_letter c.is_letter.ensures c.peek-b.ensures c.if-is_letter.false) (λ e. c.if-b-eq45.false (c.peek-b.ensures ∙ e)); on = tt }
+pub returns-in_default : goal.returns-in_default
+returns-in_default c =
+    let t = c.args.s.now in
+    elim c.in_default.branch [
+      | in_default-via-then-s-lt1 w ↦
+          let e = empty-first t (search arith) in
+          leaf_other (lookup c.args.labels.now) t (no-digit-below t (omega (arith, e))) (no-letter-below t (omega (arith, e))) (λ z. absurd (omega (arith, e, z)))
+      | in_default-via-else-s-lt1+in_default+then-s-lt48 w ↦
+          let h : get_or t 0 0 < 48 = search arith in
+          leaf_other (lookup c.args.labels.now) t (no-digit-below t h) (no-letter-below t (omega (arith, h))) (search arith)
+      | in_default-via-else-s-lt1+in_default+else-s-lt48+else-s-lt58+then-s-lt97 w ↦
+          let h : 58 ≤ get_or t 0 0 = search arith in
+          leaf_other (lookup c.args.labels.now) t (no-digit-past t h) (no-letter-below t (search arith)) (λ z. absurd (omega (arith, h, z)))
+      | in_default-via-else-s-lt1+in_default+else-s-lt48+else-s-lt58+else-s-lt97+else-s-lt123 w ↦
+          let h : 123 ≤ get_or t 0 0 = search arith in
+          leaf_other (lookup c.args.labels.now) t (no-digit-past t (omega (arith, h))) (no-letter-past t h) (λ z. absurd (omega (arith, h, z)))
+    ]

@@ -1,10 +1,15 @@
-use Rattle.expression.specs.Reader.{is_digit}
-use Rattle.expression.proofs.Places.{tested}
-use Rattle.expression.proofs.Laws.{number_read, number-none}
+use Rattle.std.proofs.Common.{arith}
+use Rattle.expression.proofs.Laws.{number_is, number-none, no-digit-below, no-digit-past, no-digit-in-empty, digit-first}
+use Rattle.expression.proofs.number.Goals.{in_default-via-then-s-lt1, in_default-via-else-s-lt1+then-s-lt48, in_default-via-else-s-lt1+else-s-lt48+else-s-lt58}
 use Rattle.expression.proofs.number.Goals as goal
 
-pub returns-then-is_digit : goal.returns-then-is_digit
-returns-then-is_digit c = number_read c.args.s.now c.args.at c.args.minus c.digits-run.result.size c.digits-run.result.at c.skip_spaces-n.result c.sized.result (tested is_digit c.is_digit.ensures c.peek.ensures c.if-is_digit.true) c.digits-run.ensures.0 c.digits-run.ensures.1 c.skip_spaces-n.ensures c.sized.ensures
+pub returns-in_default : goal.returns-in_default
+returns-in_default c = number-none c.args.minus c.args.s.now
+    (elim c.in_default.branch [
+      | in_default-via-then-s-lt1 w ↦ no-digit-in-empty c.args.s.now (search arith)
+      | in_default-via-else-s-lt1+then-s-lt48 w ↦ no-digit-below c.args.s.now (search arith)
+      | in_default-via-else-s-lt1+else-s-lt48+else-s-lt58 w ↦ no-digit-past c.args.s.now (search arith)
+    ])
 
 pub returns : goal.returns
-returns c = number-none c.args.s.now c.args.at c.args.minus (tested is_digit c.is_digit.ensures c.peek.ensures c.if-is_digit.false)
+returns c = rw (c.sized.ensures, c.skip_spaces.ensures, c.digits-size.ensures.0, c.digits-size.ensures.1) (number_is c.args.minus c.args.s.now (digit-first c.args.s.now (search arith) (search arith)))

@@ -1,16 +1,15 @@
-use mathlib.Core.Path.{refl, ◌∙◌}
-use mathlib.Core.List.{[]}
-use Rattle.lister.proofs.Laws.{and-read}
+use Rattle.lister.proofs.Laws.{none_read, read_more, broken_read}
 use Rattle.lister.proofs.read_all.Goals as goal
 
-pub loop-turns-init : goal.loop-turns-init
-loop-turns-init g c = (refl, record { text = []; taken = rw (c.open-p.ensures.0, c.open-p.ensures.1) })
+pub loop-read-init : goal.loop-read-init
+loop-read-init g c = rw c.new-seen.ensures (none_read _)
 
-pub returns-then-t-clause-text_read : goal.returns-then-t-clause-text_read
-returns-then-t-clause-text_read g c = and-read c.loop-turns.invariant.1 c.read_part-t.ensures.part_read
+pub loop-read-preserved : goal.loop-read-preserved
+loop-read-preserved g c =
+    let l = c.loop-read in
+    read_more _ _ _ l._read c.in_ok-n.n l.seen _ c.read.new.buf l.invariant c.in_ok-n.ensures.bound.0 c.if-n-eq0.false c.in_ok-n.ensures.bytes.0 c.take_part.ensures
 
-pub loop-turns-preserved : goal.loop-turns-preserved
-loop-turns-preserved g c = (c.read_part-t.auto.cells ∙ c.loop-turns.invariant.0, and-read c.loop-turns.invariant.1 c.read_part-t.ensures.part_read)
-
-pub returns-clause-text_read : goal.returns-clause-text_read
-returns-clause-text_read g c = c.loop-turns.invariant.1
+pub returns-then-seen : goal.returns-then-seen
+returns-then-seen g c =
+    let l = c.loop-read in
+    broken_read _ _ _ _ (read_more _ _ _ l._read c.in_ok-n.n l.seen _ c.read.new.buf l.invariant c.in_ok-n.ensures.bound.0 c.if-n-eq0.false c.in_ok-n.ensures.bytes.0 c.take_part.ensures) c.if-seen.true

@@ -1,11 +1,10 @@
-use Prim.Native.Nat.{◌<◌}
-use native.Mathlib.Omega.{arith}
-use Rattle.runner.proofs.Laws.{grown}
+use Rattle.std.proofs.Common.{arith, length-append, length-take}
+use Rattle.runner.proofs.Laws.{read_more}
 use Rattle.runner.proofs.read_all.Goals as goal
 
-pub loop-at-smaller : goal.loop-at-smaller
-loop-at-smaller g c =
-    let r = c.read_part-p in
+pub loop-at-preserved : goal.loop-at-preserved
+loop-at-preserved g c =
     let l = c.loop-at in
-    let h : l.at < r.result.at = grown l.at r.result.at l.text r.new.text (rw c.if-p.false at r.ensures.part_read) l.invariant.0 r.ensures.at_le_at.1 in
-    omega (arith, r.auto.text)
+    let n = c.in_ok-n.n in
+    let h = c.in_ok-n.ensures.bound.0 in
+    (simp (length-append, length-take, length-append) (omega arith), read_more _ _ _ l.at n l.text c.read.new.buf _ l.invariant.0 h l.invariant.1 c.in_ok-n.ensures.bytes.0)

@@ -1,17 +1,16 @@
-use native.Mathlib.Omega.{arith}
-use Rattle.runner_cases.proofs.Laws.{counted_none, counted-more, counted-rest, counted-whole}
+use Rattle.std.proofs.Common.{◌∙◌, ap, arith, Bool, cond}
+use Rattle.runner_cases.proofs.Laws.{counted_none, counted-more, counted-rest, counted-whole, one_or_none, adds_is}
 use Rattle.runner_cases.proofs.replay.Goals as goal
 
 pub loop-at-init : goal.loop-at-init
 loop-at-init c = (omega arith, omega arith, omega arith, counted_none c.args.s.now)
 
 pub loop-at-preserved : goal.loop-at-preserved
-loop-at-preserved c = let i = c in
-    let b = i in
-    let a = b in
-    let v = a.loop-at in
-    let s = a.args.s.now in
-    (omega arith, omega arith, omega (arith, c.passes-one.ensures.upper_bound), counted-more s v.at v.seen v.passed a.length_at-a.result b.length_at-b.result v.invariant.3 a.length_at-a.ensures.value b.length_at-b.ensures.value c.passes-one.result (omega arith) (omega arith) c.passes-one.ensures.value)
+loop-at-preserved c = let v = c.loop-at in
+    let s = c.args.s.now in
+    let o = one_or_none c.passes-one.result in
+    let f = c.from-passed.ensures in
+    (omega arith, omega arith, omega arith, counted-more s v.at v.seen v.passed c.length_at-a.result c.length_at-b.result v.invariant.3 c.length_at-a.ensures.value c.length_at-b.ensures.value c.from-passed.result (omega arith) (omega arith) (f ∙ adds_is c.passes-one.result ∙ ap (λ (b : Bool). cond b 1 0) c.passes-one.ensures))
 
 pub returns-after-loop-at : goal.returns-after-loop-at
 returns-after-loop-at c = let v = c.loop-at in
@@ -22,8 +21,5 @@ returns-then-left-lt16 c = let v = c.loop-at in
     counted-rest c.args.s.now v.at v.seen v.passed v.invariant.3 (omega arith)
 
 pub returns-then-left-a : goal.returns-then-left-a
-returns-then-left-a c = let b = c in
-    let a = b in
-    let v = a.loop-at in
-    let s = a.args.s.now in
-    counted-whole s v.at v.seen v.passed a.length_at-a.result b.length_at-b.result v.invariant.3 a.length_at-a.ensures.value b.length_at-b.ensures.value (omega arith)
+returns-then-left-a c = let v = c.loop-at in
+    counted-whole c.args.s.now v.at v.seen v.passed c.length_at-a.result c.length_at-b.result v.invariant.3 c.length_at-a.ensures.value c.length_at-b.ensures.value (omega arith)

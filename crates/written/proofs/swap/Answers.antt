@@ -1,39 +1,21 @@
-use mathlib.Core.Path.{◌∙◌, ap}
-use Rattle.definition.specs.Registers.{reg_at, put_reg}
-use Rattle.registers.specs.Meaning.{put_res}
-use Rattle.registers.proofs.Laws.{settled_is}
-use Rattle.arguments.specs.Operands.{arg_of}
-use Rattle.arguments.proofs.Laws.{cell-of-is, address-of-is, cell-ok, cell-err}
+use Rattle.std.proofs.lemmas.Result.{err_from_is_err_and}
+use Rattle.definition.specs.Exec.{and_then}
 use Rattle.journal.specs.Writes.{aim_swap}
-use Rattle.written.proofs.Laws.{put-ok, put-err, ended}
+use Rattle.registers.specs.Meaning.{planned, res_of}
+use Rattle.registers.proofs.Laws.{settled_is}
 use Rattle.written.proofs.swap.Goals as goal
 
-pub returns-then-q : goal.returns-then-q
-unfolding aim_swap
-returns-then-q c =
-    let at-if2 = c in
-    let at-put-reg = at-if2 in
-    let at-if1 = at-put-reg in
-    let at-cell-of = at-if1 in
-    let a = at-cell-of.args in let l = a.cells.now in let t = at-cell-of.cell_of-given.result in let q = at-put-reg.put_reg-q.result in
-    let p = ap (put_res l) at-put-reg.put_reg-q.ensures ∙ settled_is t.s l (put_reg (reg_at a.r) t.value t.s) in
-    cell-ok l t (cell-of-is l a.s (arg_of a.x) t at-cell-of.cell_of-given.ensures) _ at-if1.if-given.true (put-ok l q p _ at-if2.if-q.true (address-of-is l q.s (arg_of a.x) _ (c.address_of.ensures l)))
+pub returns-in_err-put_reg-clause-value : goal.returns-in_err-put_reg-clause-value
+unfolding aim_swap and_then res_of
+returns-in_err-put_reg-clause-value c =
+    let p = c.cell_of.new.p in
+    let e = settled_is p.s c.put_reg.new.s (planned c.args.cells.now p) c.put_reg.result _ c.put_reg.ensures in
+    let x = err_from_is_err_and c.from_residual-in_err-put_reg.result c.from_residual-in_err-put_reg.ensures.1 in
+    rw (x.1, x.2, ← c.in_ok-v.ensures.value, ← e, c.in_err-put_reg.was)
 
-pub returns-then-given : goal.returns-then-given
-unfolding aim_swap
-returns-then-given c =
-    let at-if2 = c in
-    let at-put-reg = at-if2 in
-    let at-if1 = at-put-reg in
-    let at-cell-of = at-if1 in
-    let a = at-cell-of.args in let l = a.cells.now in let t = at-cell-of.cell_of-given.result in let q = at-put-reg.put_reg-q.result in
-    let p = ap (put_res l) at-put-reg.put_reg-q.ensures ∙ settled_is t.s l (put_reg (reg_at a.r) t.value t.s) in
-    cell-ok l t (cell-of-is l a.s (arg_of a.x) t at-cell-of.cell_of-given.ensures) _ at-if1.if-given.true (put-err l q p _ at-if2.if-q.false (ended l q.s q.error _ c.ends.ensures))
-
-pub returns : goal.returns
-unfolding aim_swap
-returns c =
-    let at-if1 = c in
-    let at-cell-of = at-if1 in
-    let a = at-cell-of.args in let l = a.cells.now in let t = at-cell-of.cell_of-given.result in
-    cell-err l t (cell-of-is l a.s (arg_of a.x) t at-cell-of.cell_of-given.ensures) _ at-if1.if-given.false (ended l t.s t.error _ c.ends-2.ensures)
+pub returns-clause-value : goal.returns-clause-value
+unfolding aim_swap and_then res_of
+returns-clause-value c =
+    let p = c.cell_of.new.p in
+    let e = settled_is p.s c.put_reg.new.s (planned c.args.cells.now p) c.put_reg.result _ c.put_reg.ensures in
+    rw (← c.in_ok-v.ensures.value, ← e, c.in_ok-put_reg.was) (c.place_of.ensures (planned c.args.cells.now p))

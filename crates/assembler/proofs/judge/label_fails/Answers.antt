@@ -1,15 +1,16 @@
-use Rattle.expression.specs.Table.{lookup, place_found}
-use Rattle.assembler.proofs.Judged.{fails-beyond, fails-again, fails-none}
+use Rattle.std.proofs.Common.{refl}
+use Rattle.expression.specs.Labels.{lookup}
+use Rattle.assembler.proofs.Judged.{fails-none, fails-beyond, fails-again, fails-nowhere}
 use Rattle.assembler.proofs.judge.label_fails.Goals as goal
 
+pub returns-in_default : goal.returns-in_default
+returns-in_default c = rw c.in_default.is (fails-none (lookup c.args.labels.now) c.args.k c.args.c)
+
 pub returns-then-c-ge256 : goal.returns-then-c-ge256
-returns-then-c-ge256 c = fails-beyond (lookup c.args.s.now c.args.labels.now) c.args.k c.args.c c.args.s.now c.args.name c.args.labelled c.if-labelled.true c.if-c-ge256.true
+returns-then-c-ge256 c = rw c.in-Some.is (fails-beyond (lookup c.args.labels.now) c.args.k c.args.c c.in-Some.name.now c.if-c-ge256.true)
 
-pub find-requires : goal.find-requires
-find-requires c = c.requires
+pub returns-in-Some-find : goal.returns-in-Some-find
+returns-in-Some-find c = rw c.in-Some.is (fails-again (lookup c.args.labels.now) c.args.k c.args.c c.in-Some.name.now c.in-Some-find.line _ c.if-c-ge256.false c.in-Some-find.ensures refl)
 
-pub returns-then-labelled : goal.returns-then-labelled
-returns-then-labelled c = fails-again (lookup c.args.s.now c.args.labels.now) c.args.k c.args.c c.args.s.now c.args.name c.args.labelled c.is_at.result (place_found c.find.result) c.if-labelled.true c.if-c-ge256.false c.find.ensures c.is_at.ensures
-
-pub returns : goal.returns
-returns c = fails-none (lookup c.args.s.now c.args.labels.now) c.args.k c.args.c c.args.s.now c.args.name c.args.labelled c.if-labelled.false
+pub returns-in-None : goal.returns-in-None
+returns-in-None c = rw c.in-Some.is (fails-nowhere (lookup c.args.labels.now) c.args.k c.args.c c.in-Some.name.now c.if-c-ge256.false c.in-None.ensures)

@@ -1,36 +1,32 @@
-use mathlib.Core.Path.{◌∙◌, sym}
-use native.Mathlib.Omega.{arith}
-use Rattle.expression.specs.Table.{lookup}
-use Rattle.expression.proofs.Places.{inside-byte}
-use Rattle.line.proofs.Laws.{content-word, content-no-word, content-operation, content-none}
+use Rattle.std.proofs.Common.{sym, ◌∙◌, arith}
+use Rattle.expression.specs.Labels.{lookup}
+use Rattle.expression.proofs.Spans.{rest-is}
+use Rattle.line.proofs.Laws.{then-none, then-some, begins, begins_other, begins-not, content-word, content-dot, content-op, below-33}
+use Rattle.line.proofs.content.content.Goals.{then-s-lt1, else-s-lt1+in_default-1}
 use Rattle.line.proofs.content.content.Goals as goal
 
-pub overflow_add-at : goal.overflow_add-at
-overflow_add-at c = let h = inside-byte c.args.s.now c.args.at 46 (sym c.peek.ensures ∙ c.if-peek-eq46.true) (omega arith) in omega arith
+pub returns-then-is_same : goal.returns-then-is_same
+returns-then-is_same c =
+    let n = rw (rest-is c.args.s.now) at c.split_name.ensures.0 in
+    let r = rw (rest-is c.args.s.now) at c.split_name.ensures.1 in
+    rw r at c.word_after.ensures ∙ content-word (lookup c.args.labels.now) c.args.s.now (begins 46 c.args.s.now (search arith)) (rw n at (sym c.is_same.ensures ∙ c.if-is_same.true))
 
-pub is_word-requires : goal.is_word-requires
-is_word-requires c = let h = inside-byte c.args.s.now c.args.at 46 (sym c.peek.ensures ∙ c.if-peek-eq46.true) (omega arith) in omega arith
+pub returns-in-46 : goal.returns-in-46
+returns-in-46 c =
+    let n = rw (rest-is c.args.s.now) at c.split_name.ensures.0 in
+    content-dot (lookup c.args.labels.now) c.args.s.now (begins 46 c.args.s.now (search arith)) (rw n at (sym c.is_same.ensures ∙ c.if-is_same.false))
 
-pub overflow_add-at-then-is_word : goal.overflow_add-at-then-is_word
-overflow_add-at-then-is_word c = let h = inside-byte c.args.s.now c.args.at 46 (sym c.peek.ensures ∙ c.if-peek-eq46.true) (omega arith) in omega arith
-
-pub skip_letters-to-requires : goal.skip_letters-to-requires
-skip_letters-to-requires c = let h = inside-byte c.args.s.now c.args.at 46 (sym c.peek.ensures ∙ c.if-peek-eq46.true) (omega arith) in omega arith
-
-pub word_after-requires : goal.word_after-requires
-word_after-requires c = (c.skip_letters-to.ensures.within, c.requires.1)
-
-pub returns-then-is_word : goal.returns-then-is_word
-returns-then-is_word c = content-word (lookup c.args.s.now c.args.labels.now) c.args.s.now c.args.at c.is_word.result c.skip_letters-to.result c.word_after.result (sym c.peek.ensures ∙ c.if-peek-eq46.true) c.is_word.ensures c.if-is_word.true c.skip_letters-to.ensures c.word_after.ensures
-
-pub returns-then-peek-eq46 : goal.returns-then-peek-eq46
-returns-then-peek-eq46 c = content-no-word (lookup c.args.s.now c.args.labels.now) c.args.s.now c.args.at c.is_word.result (sym c.peek.ensures ∙ c.if-peek-eq46.true) c.is_word.ensures c.if-is_word.false
+pub returns-in_err-op : goal.returns-in_err-op
+returns-in_err-op c =
+    let t = c.args.s.now in
+    rw c.from_residual.ensures (then-none _ _ c.in_err-op.ensures ∙ content-op (lookup c.args.labels.now) t
+    (elim c.if-s-lt1.branch [ then-s-lt1 w ↦ begins-not 46 t (omega arith) (search arith) | else-s-lt1+in_default-1 w ↦ begins_other 46 t (search arith) ]))
 
 pub operands-requires : goal.operands-requires
-operands-requires c = (c.if-op-lt33.true, c.skip_letters-to-then-op-lt33.ensures.within, c.requires.1)
-
-pub returns-then-op-lt33 : goal.returns-then-op-lt33
-returns-then-op-lt33 c = content-operation (lookup c.args.s.now c.args.labels.now) c.args.s.now c.args.at c.mnemonic-op.result c.skip_letters-to-then-op-lt33.result c.operands.result (λ e. c.if-peek-eq46.false (c.peek.ensures ∙ e)) c.mnemonic-op.ensures c.if-op-lt33.true c.skip_letters-to-then-op-lt33.ensures c.operands.ensures
+operands-requires c = below-33 c.args.s.now _ _ c.in_ok-op.ensures
 
 pub returns : goal.returns
-returns c = content-none (lookup c.args.s.now c.args.labels.now) c.args.s.now c.args.at c.mnemonic-op.result (λ e. c.if-peek-eq46.false (c.peek.ensures ∙ e)) c.mnemonic-op.ensures c.if-op-lt33.false
+returns c =
+    let t = c.args.s.now in
+    c.operands.ensures ∙ (then-some _ _ _ _ c.in_ok-op.ensures ∙ content-op (lookup c.args.labels.now) t
+    (elim c.if-s-lt1.branch [ then-s-lt1 w ↦ begins-not 46 t (omega arith) (search arith) | else-s-lt1+in_default-1 w ↦ begins_other 46 t (search arith) ]))

@@ -1,17 +1,24 @@
-use mathlib.Core.Path.{◌∙◌, sym}
-use native.Mathlib.Omega.{arith}
-use Rattle.expression.proofs.Places.{inside-byte}
-use Rattle.line.proofs.Laws.{line-none, line-is, line-open}
+use Rattle.std.proofs.Common.{ap, ◌∙◌, arith}
+use Rattle.expression.specs.Labels.{lookup}
+use Rattle.expression.proofs.Spans.{rest-is}
+use Rattle.line.specs.Code.{label_told, body_told}
+use Rattle.line.proofs.Laws.{then-none, then-some, begins, begins_other, begins-not, ending, ending-is, ending-not, ended-step}
+use Rattle.expression.specs.Reader.{gives}
+use Rattle.assembly.specs.Grammar as G
+use Rattle.line.proofs.content.ended.Goals.{in_default-via-then-rest-lt1, in_default-via-else-rest-lt1+in_default-1}
 use Rattle.line.proofs.content.ended.Goals as goal
 
+pub returns-in_err-body : goal.returns-in_err-body
+returns-in_err-body c = rw (c.from_residual.ensures, ← c.skip_spaces.ensures) (then-none _ (ending (label_told c.args.label)) c.in_err-body.ensures ∙ ended-step (lookup c.args.labels.now) (label_told c.args.label) _)
+
+pub returns-in-10 : goal.returns-in-10
+returns-in-10 c =
+    let u = c.in_ok-body.rest.now in
+    rw (← c.skip_spaces.ensures) (ap (gives (G.line (label_told c.args.label) (body_told c.in_ok-body.body))) (rest-is u) ∙ (ending-is (label_told c.args.label) (body_told c.in_ok-body.body) u (begins 10 u (search arith)) ∙ (then-some _ (ending (label_told c.args.label)) _ _ c.in_ok-body.ensures ∙ ended-step (lookup c.args.labels.now) (label_told c.args.label) _)))
+
 pub returns-in_default : goal.returns-in_default
-returns-in_default c = line-none c.args.s.now _ c.args.r c.in_default.is
-
-pub overflow_add-result : goal.overflow_add-result
-overflow_add-result c = let h = inside-byte c.args.s.now c.in-Is.n 10 (sym c.peek.ensures ∙ c.if-peek-eq10.true) (omega arith) in omega arith
-
-pub returns-then-peek-eq10 : goal.returns-then-peek-eq10
-returns-then-peek-eq10 c = line-is c.args.s.now c.args.labelled c.args.name c.args.r _ _ c.in-Is.is (sym c.peek.ensures ∙ c.if-peek-eq10.true)
-
-pub returns : goal.returns
-returns c = line-open c.args.s.now c.args.labelled c.args.name c.args.r _ _ c.in-Is.is (λ e. c.if-peek-eq10.false (c.peek.ensures ∙ e))
+returns-in_default c =
+    let u = c.in_ok-body.rest.now in
+    rw (← c.skip_spaces.ensures) (ending-not (label_told c.args.label) (body_told c.in_ok-body.body) u
+    (elim c.in_default.branch [ in_default-via-then-rest-lt1 w ↦ begins-not 10 u (omega arith) (search arith) | in_default-via-else-rest-lt1+in_default-1 w ↦ begins_other 10 u (search arith) ])
+    ∙ (then-some _ (ending (label_told c.args.label)) _ _ c.in_ok-body.ensures ∙ ended-step (lookup c.args.labels.now) (label_told c.args.label) _))

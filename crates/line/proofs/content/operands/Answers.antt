@@ -1,24 +1,22 @@
-use native.Mathlib.Omega.{arith}
-use Rattle.expression.specs.Reader.{is_space}
-use Rattle.expression.specs.Table.{lookup}
-use Rattle.expression.proofs.Places.{tested}
-use Rattle.line.proofs.Laws.{operands-bare, operands-some, operands-none}
+use Rattle.std.proofs.Common.{sym, ◌∙◌}
+use Rattle.expression.specs.Labels.{lookup}
+use Rattle.line.proofs.Laws.{then-none, then-some, operands-absent, operands-unspaced, operands-some, second, second-comma, second-none, coded-any}
 use Rattle.line.proofs.content.operands.Goals as goal
 
-pub is_legal-requires : goal.is_legal-requires
-is_legal-requires c = (c.requires.0, (omega arith, omega arith))
-
 pub returns-then-is_legal : goal.returns-then-is_legal
-returns-then-is_legal c = operands-bare (lookup c.args.s.now c.args.labels.now) c.args.s.now c.args.at c.args.op c.is_legal.result c.is_legal.ensures c.skip_spaces-n.result c.without_value.result c.without_value-then-is_legal.result c.requires.0 c.if-is_legal.true c.skip_spaces-n.ensures c.without_value.ensures c.without_value-then-is_legal.ensures
+returns-then-is_legal c = rw c.skip_spaces.ensures (operands-absent (lookup c.args.labels.now) c.args.op c.args.s.now (sym c.is_legal.ensures ∙ c.if-is_legal.true))
 
-pub operand-requires : goal.operand-requires
-operand-requires c = (c.skip_spaces-i.ensures.within, c.requires.2)
+pub returns-in_err-first : goal.returns-in_err-first
+returns-in_err-first c = rw c.from_residual.ensures (operands-unspaced (lookup c.args.labels.now) c.args.op c.args.s.now (sym c.is_legal.ensures ∙ c.if-is_legal.false) c.in_err-first.ensures)
 
-pub second-requires : goal.second-requires
-second-requires c = (c.requires.0, c.operand.ensures.inside, c.requires.2)
+pub returns-in_err-x : goal.returns-in_err-x
+returns-in_err-x c = rw c.from_residual-in_err-x.ensures (then-none _ (second (lookup c.args.labels.now) c.args.op) c.in_err-x.ensures ∙ operands-some (lookup c.args.labels.now) c.args.op c.args.s.now _ (sym c.is_legal.ensures ∙ c.if-is_legal.false) c.in_ok-first.ensures)
 
-pub returns-then-is_space : goal.returns-then-is_space
-returns-then-is_space c = operands-some (lookup c.args.s.now c.args.labels.now) c.args.s.now c.args.at c.args.op c.is_legal.result c.is_legal.ensures c.skip_spaces-i.result c.operand.result c.second.result c.if-is_legal.false (tested is_space c.is_space.ensures c.peek.ensures c.if-is_space.true) c.skip_spaces-i.ensures c.operand.ensures c.second.ensures
+pub returns-in_default : goal.returns-in_default
+returns-in_default c = c.coded.ensures ∙ (coded-any (lookup c.args.labels.now) _ _ _ _ ∙ second-none (lookup c.args.labels.now) c.args.op _ _ c.in_default.ensures ∙ (then-some _ (second (lookup c.args.labels.now) c.args.op) _ _ c.in_ok-x.ensures ∙ operands-some (lookup c.args.labels.now) c.args.op c.args.s.now _ (sym c.is_legal.ensures ∙ c.if-is_legal.false) c.in_ok-first.ensures))
+
+pub returns-in_err-y : goal.returns-in_err-y
+returns-in_err-y c = rw c.from_residual-in_err-y.ensures (then-none _ _ c.in_err-y.ensures ∙ (second-comma (lookup c.args.labels.now) c.args.op _ _ _ c.in-Some.ensures ∙ (then-some _ (second (lookup c.args.labels.now) c.args.op) _ _ c.in_ok-x.ensures ∙ operands-some (lookup c.args.labels.now) c.args.op c.args.s.now _ (sym c.is_legal.ensures ∙ c.if-is_legal.false) c.in_ok-first.ensures)))
 
 pub returns : goal.returns
-returns c = operands-none (lookup c.args.s.now c.args.labels.now) c.args.s.now c.args.at c.args.op c.is_legal.result c.is_legal.ensures c.if-is_legal.false (tested is_space c.is_space.ensures c.peek.ensures c.if-is_space.false)
+returns c = c.coded-2.ensures ∙ (coded-any (lookup c.args.labels.now) _ _ _ _ ∙ then-some _ _ _ _ c.in_ok-y.ensures ∙ (second-comma (lookup c.args.labels.now) c.args.op _ _ _ c.in-Some.ensures ∙ (then-some _ (second (lookup c.args.labels.now) c.args.op) _ _ c.in_ok-x.ensures ∙ operands-some (lookup c.args.labels.now) c.args.op c.args.s.now _ (sym c.is_legal.ensures ∙ c.if-is_legal.false) c.in_ok-first.ensures)))

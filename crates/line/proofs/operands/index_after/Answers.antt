@@ -1,30 +1,27 @@
-use mathlib.Core.Path.{◌∙◌, sym, subst}
-use native.Mathlib.Omega.{arith}
-use Rattle.expression.proofs.Places.{inside-byte}
-use Rattle.line.specs.Code.{index_of, RegisterIn}
-use Rattle.line.proofs.Laws.{none-arg, index_plus, index-minus, index-none}
+use Rattle.std.proofs.Common.{true, false, ap, ◌∙◌, arith}
+use Rattle.expression.specs.Reader.{numbered}
+use Rattle.expression.specs.Values.{values, no_labels}
+use Rattle.expression.proofs.Spans.{rest-is}
+use Rattle.line.proofs.Laws.{then-none, then-some, begins, begins_other, begins-not, index-plus, index-minus, index-none}
+use Rattle.line.proofs.operands.index_after.Goals.{in_default-via-then-s-lt1, in_default-via-else-s-lt1+in_default-1}
 use Rattle.line.proofs.operands.index_after.Goals as goal
 
+pub returns-in_err-index-in-43 : goal.returns-in_err-index-in-43
+returns-in_err-index-in-43 c = rw c.from_residual.ensures (then-none _ _ (c.in_err-index-in-43.ensures ∙ ap (numbered (values no_labels) false) (rest-is c.args.s.now)) ∙ index-plus c.args.register c.args.s.now (begins 43 c.args.s.now (search arith)))
+
+pub returns-in_err-index-in-45 : goal.returns-in_err-index-in-45
+returns-in_err-index-in-45 c = rw c.from_residual-in_err-index-in-45.ensures (then-none _ _ (c.in_err-index-in-45.ensures ∙ ap (numbered (values no_labels) true) (rest-is c.args.s.now)) ∙ index-minus c.args.register c.args.s.now (begins 45 c.args.s.now (search arith)))
+
+pub returns-in_ok-index-in-43 : goal.returns-in_ok-index-in-43
+returns-in_ok-index-in-43 c = then-some _ _ _ _ (c.in_ok-index-in-43.ensures ∙ ap (numbered (values no_labels) false) (rest-is c.args.s.now)) ∙ index-plus c.args.register c.args.s.now (begins 43 c.args.s.now (search arith))
+
+pub returns-in_ok-index-in-45 : goal.returns-in_ok-index-in-45
+returns-in_ok-index-in-45 c = then-some _ _ _ _ (c.in_ok-index-in-45.ensures ∙ ap (numbered (values no_labels) true) (rest-is c.args.s.now)) ∙ index-minus c.args.register c.args.s.now (begins 45 c.args.s.now (search arith))
+
 pub returns-in_default : goal.returns-in_default
-returns-in_default c = none-arg c.args.s.now c.args.r index_of c.in_default.is
-
-pub overflow_add-n : goal.overflow_add-n
-overflow_add-n c = let h = inside-byte c.args.s.now c.in-Is.n 43 (sym c.peek-b.ensures ∙ c.if-b-eq43.true) (omega arith) in omega arith
-
-pub number-requires : goal.number-requires
-number-requires c = let h = inside-byte c.args.s.now c.in-Is.n 43 (sym c.peek-b.ensures ∙ c.if-b-eq43.true) (omega arith) in omega arith
-
-pub returns-then-b-eq43 : goal.returns-then-b-eq43
-returns-then-b-eq43 c = index_plus c.args.s.now c.args.r _ _ c.in-Is.is c.number.result c.as_value.result (sym c.peek-b.ensures ∙ c.if-b-eq43.true) c.number.ensures c.as_value.ensures
-
-pub overflow_add-n-then-b-eq45 : goal.overflow_add-n-then-b-eq45
-overflow_add-n-then-b-eq45 c = let h = inside-byte c.args.s.now c.in-Is.n 45 (sym c.peek-b.ensures ∙ c.if-b-eq45.true) (omega arith) in omega arith
-
-pub number-requires-then-b-eq45 : goal.number-requires-then-b-eq45
-number-requires-then-b-eq45 c = let h = inside-byte c.args.s.now c.in-Is.n 45 (sym c.peek-b.ensures ∙ c.if-b-eq45.true) (omega arith) in omega arith
-
-pub returns-then-b-eq45 : goal.returns-then-b-eq45
-returns-then-b-eq45 c = index-minus c.args.s.now c.args.r _ _ c.in-Is.is c.number-then-b-eq45.result c.as_value-then-b-eq45.result (sym c.peek-b.ensures ∙ c.if-b-eq45.true) c.number-then-b-eq45.ensures c.as_value-then-b-eq45.ensures
-
-pub returns : goal.returns
-returns c = index-none c.args.s.now c.args.r _ _ c.in-Is.is c.without_value.result (λ e. c.if-b-eq43.false (c.peek-b.ensures ∙ e)) (λ e. c.if-b-eq45.false (c.peek-b.ensures ∙ e)) (subst (RegisterIn c.args.s.now) c.in-Is.is c.requires) c.without_value.ensures
+returns-in_default c =
+    let t = c.args.s.now in
+    elim c.in_default.branch [
+      | in_default-via-then-s-lt1 w ↦ index-none c.args.register t (begins-not 43 t (omega arith) (search arith)) (begins-not 45 t (omega arith) (search arith))
+      | in_default-via-else-s-lt1+in_default-1 w ↦ index-none c.args.register t (begins_other 43 t (search arith)) (begins_other 45 t (search arith))
+    ]

@@ -1,33 +1,34 @@
-use mathlib.Core.Path.{◌∙◌, sym}
-use native.Mathlib.Omega.{arith}
-use Rattle.expression.specs.Table.{lookup}
-use Rattle.expression.proofs.Places.{inside-byte}
-use Rattle.line.proofs.Laws.{operand-register, operand-square, operand-value}
+use Rattle.std.proofs.Common.{refl, ap, ◌∙◌, arith}
+use Rattle.expression.specs.Labels.{lookup}
+use Rattle.expression.proofs.Spans.{rest-is}
+use Rattle.assembly.specs.Reader.{register}
+use Rattle.line.proofs.Laws.{then-none, then-some, begins, begins_other, begins-not, expect-some, expect-none, operand-register, operand-square, operand-value}
+use Rattle.line.proofs.operands.operand.Goals.{then-s-lt1, else-s-lt1+in_default-1}
 use Rattle.line.proofs.operands.operand.Goals as goal
 
-pub overflow_add-at : goal.overflow_add-at
-overflow_add-at c = let h = inside-byte c.args.s.now c.args.at 37 (sym c.peek-b.ensures ∙ c.if-b-eq37.true) (omega arith) in omega arith
+pub returns-in_err-register : goal.returns-in_err-register
+returns-in_err-register c = rw c.from_residual.ensures (then-none _ _ (c.in_err-register.ensures ∙ ap register (rest-is c.args.s.now)) ∙ operand-register (lookup c.args.labels.now) c.args.s.now (begins 37 c.args.s.now (search arith)))
 
-pub register-requires : goal.register-requires
-register-requires c = let h = inside-byte c.args.s.now c.args.at 37 (sym c.peek-b.ensures ∙ c.if-b-eq37.true) (omega arith) in omega arith
+pub returns-in-37 : goal.returns-in-37
+returns-in-37 c = then-some _ _ _ _ (c.in_ok-register.ensures ∙ ap register (rest-is c.args.s.now)) ∙ operand-register (lookup c.args.labels.now) c.args.s.now (begins 37 c.args.s.now (search arith))
 
-pub returns-then-b-eq37 : goal.returns-then-b-eq37
-returns-then-b-eq37 c = operand-register (lookup c.args.s.now c.args.labels.now) c.args.s.now c.args.at c.register.result c.as_register.result (sym c.peek-b.ensures ∙ c.if-b-eq37.true) c.register.ensures c.as_register.ensures
+pub returns-in_err-arg : goal.returns-in_err-arg
+returns-in_err-arg c = rw c.from_residual-in_err-arg.ensures (then-none _ _ c.in_err-arg.ensures ∙ operand-square (lookup c.args.labels.now) c.args.s.now _ c.in-Some.ensures)
 
-pub overflow_add-at-then-b-eq91 : goal.overflow_add-at-then-b-eq91
-overflow_add-at-then-b-eq91 c = let h = inside-byte c.args.s.now c.args.at 91 (sym c.peek-b.ensures ∙ c.if-b-eq91.true) (omega arith) in omega arith
+pub returns-in_err-token : goal.returns-in_err-token
+returns-in_err-token c = rw c.from_residual-in_err-token.ensures (expect-none 93 _ _ refl c.in_err-token.ensures ∙ (then-some _ _ _ _ c.in_ok-arg.ensures ∙ operand-square (lookup c.args.labels.now) c.args.s.now _ c.in-Some.ensures))
 
-pub skip_spaces-i-requires : goal.skip_spaces-i-requires
-skip_spaces-i-requires c = let h = inside-byte c.args.s.now c.args.at 91 (sym c.peek-b.ensures ∙ c.if-b-eq91.true) (omega arith) in omega arith
+pub returns-in-Some : goal.returns-in-Some
+returns-in-Some c = expect-some 93 _ _ _ c.in_ok-token.ensures ∙ (then-some _ _ _ _ c.in_ok-arg.ensures ∙ operand-square (lookup c.args.labels.now) c.args.s.now _ c.in-Some.ensures)
 
-pub in_square-requires : goal.in_square-requires
-in_square-requires c = (c.skip_spaces-i.ensures.within, c.requires.1)
-
-pub returns-then-b-eq91 : goal.returns-then-b-eq91
-returns-then-b-eq91 c = operand-square (lookup c.args.s.now c.args.labels.now) c.args.s.now c.args.at c.skip_spaces-i.result c.in_square.result (sym c.peek-b.ensures ∙ c.if-b-eq91.true) c.skip_spaces-i.ensures c.in_square.ensures
-
-pub sum-requires : goal.sum-requires
-sum-requires c = (c.requires.0, omega arith, c.requires.1)
+pub returns-in_err-value : goal.returns-in_err-value
+returns-in_err-value c =
+    let t = c.args.s.now in
+    rw c.from_residual-in_err-value.ensures (then-none _ _ c.in_err-value.ensures ∙ operand-value (lookup c.args.labels.now) t
+    (elim c.if-s-lt1.branch [ then-s-lt1 w ↦ begins-not 37 t (omega arith) (search arith) | else-s-lt1+in_default-1 w ↦ begins_other 37 t (search arith) ]) c.in_default-token.ensures)
 
 pub returns : goal.returns
-returns c = operand-value (lookup c.args.s.now c.args.labels.now) c.args.s.now c.args.at c.sum.result c.as_value.result (λ e. c.if-b-eq37.false (c.peek-b.ensures ∙ e)) (λ e. c.if-b-eq91.false (c.peek-b.ensures ∙ e)) c.sum.ensures c.as_value.ensures
+returns c =
+    let t = c.args.s.now in
+    then-some _ _ _ _ c.in_ok-value.ensures ∙ operand-value (lookup c.args.labels.now) t
+    (elim c.if-s-lt1.branch [ then-s-lt1 w ↦ begins-not 37 t (omega arith) (search arith) | else-s-lt1+in_default-1 w ↦ begins_other 37 t (search arith) ]) c.in_default-token.ensures

@@ -1,35 +1,36 @@
-use native.Mathlib.Omega.{arith}
-use borrow.Author.Rules.{rules}
-use Rattle.definition.specs.Encoding.{sound}
+use Rattle.std.proofs.Common.{ap, length, arith, rules}
 use Rattle.word.proofs.Laws.{back}
-use Rattle.listing.proofs.Pieces.{plain-text, code-text, code-tag}
+use Rattle.definition.specs.Encoding.{sound}
+use Rattle.listing.proofs.Pieces.{plain-text, code-tag, code-legal, code-text}
 use Rattle.listing.proofs.line.put_content.Goals as goal
 
-pub returns-then-t-lt2 : goal.returns-then-t-lt2
+pub put_word-requires : goal.put_word-requires
 unfolding sound
-returns-then-t-lt2 c = let v = c.args.v in
-    let b = back v.tag (search rules) in
-    rw (plain-text v.tag v.first v.second c.requires.0 (rw b at c.if-t-lt2.true)) (rw (back v.first (search rules)) at c.put_word.ensures)
+put_word-requires g c = let v = c.args.v in
+    let e = ap length (plain-text v.tag v.first v.second c.requires.sound (rw (back v.tag (omega arith)) at c.if-v-lt2.true)) in
+    rw (back v.first (omega arith)) (search rules)
+
+pub returns-then-v-lt2 : goal.returns-then-v-lt2
+unfolding sound
+returns-then-v-lt2 g c = let v = c.args.v in
+    rw (plain-text v.tag v.first v.second c.requires.sound (rw (back v.tag (omega arith)) at c.if-v-lt2.true)) (rw (back v.first (omega arith)) at c.put_word.ensures)
 
 pub overflow_cast-t : goal.overflow_cast-t
-unfolding sound
-overflow_cast-t c = let v = c.args.v in
-    let b = back v.tag (omega arith) in
-    rw b (code-tag v.tag v.first v.second c.requires.0 (rw b at c.if-t-lt2.false)).whole
+overflow_cast-t g c = let v = c.args.v in let b = back v.tag (omega arith) in rw b (code-tag v c.requires.sound (rw b at c.if-v-lt2.false)).whole
 
 pub overflow_sub-t : goal.overflow_sub-t
-unfolding sound
-overflow_sub-t c = let v = c.args.v in
-    let b = back v.tag (omega arith) in
-    rw b (code-tag v.tag v.first v.second c.requires.0 (rw b at c.if-t-lt2.false)).least
+overflow_sub-t g c = let v = c.args.v in let b = back v.tag (omega arith) in rw b (code-tag v c.requires.sound (rw b at c.if-v-lt2.false)).least
 
-pub put_code-requires : goal.put_code-requires
-unfolding sound
-put_code-requires c = let v = c.args.v in
-    let b = back v.tag (omega arith) in
-    (rw b (code-tag v.tag v.first v.second c.requires.0 (rw b at c.if-t-lt2.false)).most, omega arith)
+pub decode-requires : goal.decode-requires
+decode-requires g c = let v = c.args.v in let b = back v.tag (omega arith) in let h = rw b at c.if-v-lt2.false in
+    rw b ((code-tag v c.requires.sound h).most, code-legal v c.requires.sound h)
 
-pub returns : goal.returns
-returns c = let v = c.args.v in
-    let b = back v.tag (search rules) in
-    rw (code-text v.tag v.first v.second (rw b at c.if-t-lt2.false)) (rw (b, back v.first (search rules), back v.second (search rules)) at c.put_code.ensures)
+pub put_instruction-requires : goal.put_instruction-requires
+put_instruction-requires g c = let v = c.args.v in let b = back v.tag (omega arith) in
+    let d = rw (b, back v.first (omega arith), back v.second (omega arith)) at c.decode.ensures in
+    rw (d, code-text v c.requires.sound (rw b at c.if-v-lt2.false)) (search rules)
+
+pub returns-else-v-lt2 : goal.returns-else-v-lt2
+returns-else-v-lt2 g c = let v = c.args.v in let b = back v.tag (omega arith) in
+    let d = rw (b, back v.first (omega arith), back v.second (omega arith)) at c.decode.ensures in
+    rw (d, code-text v c.requires.sound (rw b at c.if-v-lt2.false)) at c.put_instruction.ensures

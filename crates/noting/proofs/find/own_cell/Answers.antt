@@ -1,14 +1,13 @@
-use mathlib.Core.Path.{ap, ◌∙◌}
-use mathlib.Core.List.{[], ◌∷◌}
-use Rattle.definition.specs.declared.Cell.{Cell}
-use Rattle.journal.specs.Writes.{held}
-use Rattle.noting.proofs.Laws.{written_in, written_out}
+use Rattle.std.proofs.Common.{ap, ◌∙◌}
+use Rattle.memory.specs.Overlay.{overlay}
+use Rattle.noting.specs.Meaning.{own_of}
+use Rattle.noting.proofs.Laws.{aimed_ok, own_there}
 use Rattle.noting.proofs.find.own_cell.Goals as goal
 
-pub returns-then-n-cells : goal.returns-then-n-cells
-returns-then-n-cells c =
-    let a = c.args in
-    ap (λ (v : Cell). held a.at v ∷ []) c.get_cell-cell.ensures ∙ written_in a.cells.now a.at c.if-n-cells.true
+pub returns-in_err-n : goal.returns-in_err-n
+unfolding overlay
+returns-in_err-n c = ap own_of c.from_residual.ensures ∙ c.in_err-n.ensures.value ∙ rw c.guard.ensures (aimed_ok _ _ _ _ c.in-Ok.ensures.value)
 
 pub returns : goal.returns
-returns c = let a = c.args in written_out a.cells.now a.at c.if-n-cells.false
+unfolding overlay
+returns c = own_there _ _ _ c.in_ok-n.ensures.inside c.was_over.ensures ∙ c.in_ok-n.ensures.value ∙ rw c.guard.ensures (aimed_ok _ _ _ _ c.in-Ok.ensures.value)

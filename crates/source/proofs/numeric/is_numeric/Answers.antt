@@ -1,26 +1,43 @@
-use Prim.Native.Nat.{◌-◌}
-use mathlib.Core.Path.{sym, ap, ◌∙◌}
-use native.Mathlib.Omega.{arith}
-use lib.Dec.{eqb}
-use Rattle.expression.proofs.Places.{tail-drop, inside-byte}
-use Rattle.source.specs.Source.{numeric_from, after_number}
+use Rattle.std.proofs.Common.{◌≡◌, ap, sym, ◌∙◌, ◌-◌, ◌+◌, eq-eqb, ne_eqb, arith}
+use Rattle.expression.specs.Reader.{head}
+use Rattle.source.specs.Source.{numeric_from}
+use Rattle.source.proofs.Fronts.{first_is, rest_is, head_none}
 use Rattle.source.proofs.Laws.{numeric-more, numeric-none, numeric-end}
 use Rattle.source.proofs.numeric.is_numeric.Goals as goal
 
-pub loop-left-init : goal.loop-left-init
-loop-left-init c = (c.skip_number-i.ensures.within, ap (numeric_from 3) c.skip_number-i.ensures.text)
+pub loop-comma-init : goal.loop-comma-init
+loop-comma-init c = ap (numeric_from 3) c.skip_number-rest.ensures
 
-pub returns-then-peek-ne44 : goal.returns-then-peek-ne44
-returns-then-peek-ne44 c = sym (numeric-none c.loop-left.left _ (omega arith) (λ e. c.if-peek-ne44.true (c.peek.ensures ∙ e))) ∙ c.loop-left.invariant.1
+pub returns-in_default : goal.returns-in_default
+returns-in_default c = let l = c.loop-comma in
+    let h = head_none l.rest.now (omega arith) in
+    sym (numeric-none (3 - l._comma) l.rest.now (omega arith) (λ e. omega arith)) ∙ l.invariant
 
-pub overflow_add-i : goal.overflow_add-i
-overflow_add-i c = let h = inside-byte c.args.s.now c.loop-left.i 44 (sym c.peek.ensures ∙ c.if-peek-ne44.false) (omega arith) in omega arith
+pub returns-in_default-2 : goal.returns-in_default-2
+returns-in_default-2 c = let l = c.loop-comma in
+    let h = first_is l.rest.now in
+    sym (numeric-none (3 - l._comma) l.rest.now (omega arith) (λ e. omega arith)) ∙ l.invariant
 
-pub skip_number-i-requires-in-loop-left : goal.skip_number-i-requires-in-loop-left
-skip_number-i-requires-in-loop-left c = let h = inside-byte c.args.s.now c.loop-left.i 44 (sym c.peek.ensures ∙ c.if-peek-ne44.false) (omega arith) in omega arith
+pub loop-comma-preserved : goal.loop-comma-preserved
+loop-comma-preserved c = let l = c.loop-comma in
+    let r = l.rest.now in
+    let k = l._comma in
+    let f = first_is r in
+    let h : head r ≡ 44 = omega arith in
+    let e : 3 - (k + 1) ≡ 3 - k - 1 = omega arith in
+    rw (e, c.skip_number-rest-in-loop-comma.ensures, rest_is) (sym (numeric-more (3 - k) r (omega arith) h) ∙ l.invariant)
 
-pub loop-left-preserved : goal.loop-left-preserved
-loop-left-preserved c = (c.skip_number-i-in-loop-left.ensures.within, ap (numeric_from (c.loop-left.left - 1)) (c.skip_number-i-in-loop-left.ensures.text ∙ ap after_number (sym (tail-drop c.args.s.now c.loop-left.i))) ∙ (sym (numeric-more c.loop-left.left _ (omega arith) (sym c.peek.ensures ∙ c.if-peek-ne44.false)) ∙ c.loop-left.invariant.1))
+pub returns-in-10 : goal.returns-in-10
+returns-in-10 c = let l = c.loop-comma in
+    let f = first_is l.rest.now in
+    sym (numeric-end (3 - l._comma) l.rest.now (omega arith) ∙ eq-eqb _ 10 (omega arith)) ∙ l.invariant
 
-pub returns : goal.returns
-returns c = ap (λ b. eqb b 10) c.peek-2.ensures ∙ (sym (numeric-end c.loop-left.left _ (omega arith)) ∙ c.loop-left.invariant.1)
+pub returns-in_default-matches : goal.returns-in_default-matches
+returns-in_default-matches c = let l = c.loop-comma in
+    let h = head_none l.rest.now (omega arith) in
+    sym (numeric-end (3 - l._comma) l.rest.now (omega arith) ∙ ne_eqb _ 10 (λ e. omega arith)) ∙ l.invariant
+
+pub returns-in_default-matches-2 : goal.returns-in_default-matches-2
+returns-in_default-matches-2 c = let l = c.loop-comma in
+    let f = first_is l.rest.now in
+    sym (numeric-end (3 - l._comma) l.rest.now (omega arith) ∙ ne_eqb _ 10 (λ e. omega arith)) ∙ l.invariant

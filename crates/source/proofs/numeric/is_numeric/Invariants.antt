@@ -1,11 +1,6 @@
-use mathlib.Core.Path.{◌≡◌}
-use Prim.Native.Nat.{◌≤◌}
-use lib.ListN.{length, drop}
+use Rattle.std.proofs.Common.{◌≡◌, ◌-◌}
 use Rattle.source.specs.Source.{numeric_from, is_numeric}
 use Rattle.source.proofs.numeric.is_numeric.Given as goal
 
-abbrev pub invariant-loop-left : goal.invariant-loop-left
-invariant-loop-left l = (l.i ≤ length l.s) × (numeric_from l.left (drop l.i l.s) ≡ is_numeric (drop l.at l.s))
-
-abbrev pub decreases-loop-left : goal.decreases-loop-left
-decreases-loop-left l = l.left
+abbrev pub invariant-loop-comma : goal.invariant-loop-comma
+invariant-loop-comma l = numeric_from (3 - l._comma) l.rest ≡ is_numeric l.s

@@ -1,2 +1,0 @@
-pub mod Jumps
-pub mod Meaning

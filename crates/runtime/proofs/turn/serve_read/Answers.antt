@@ -1,0 +1,23 @@
+use Rattle.std.proofs.Common.{◌∙◌, arith}
+use Rattle.word.proofs.Laws.{back}
+use Rattle.memory.specs.Overlay.{overlay}
+use Rattle.registers.specs.Meaning.{res_of}
+use Rattle.registers.proofs.Laws.{settled_is}
+use Rattle.runtime.proofs.Served.{served_ok, served_err}
+use Rattle.runtime.proofs.turn.serve_read.Goals as goal
+
+pub returns-clause-value : goal.returns-clause-value
+unfolding res_of
+returns-clause-value c = λ l o.
+    let z = c.planned-f.ensures in
+    let v = rw (back c.read_port-w.result (omega arith), c.read_port-w.ensures, z) at c.word_cell.ensures in
+    let s = rw (z, v) at (settled_is _ _ (overlay c.args.plan.write l) _ _ c.in_default.ensures) in
+    c.conclude.ensures.value l c.args.queue.now o c.args.m.now ∙ rw z (served_ok _ _ _ _ _ _ _ _ (rw z at (c.read_port-n.ensures o)) s)
+
+pub returns-in-Err-clause-value : goal.returns-in-Err-clause-value
+unfolding res_of
+returns-in-Err-clause-value c = λ l o.
+    let z = c.planned-f.ensures in
+    let v = rw (back c.read_port-w.result (omega arith), c.read_port-w.ensures, z) at c.word_cell.ensures in
+    let s = rw (z, v) at (settled_is _ _ (overlay c.args.plan.write l) _ _ c.in-Err.ensures) in
+    c.ends.ensures _ ∙ rw z (served_err _ _ _ _ _ _ _ _ (rw z at (c.read_port-n.ensures o)) _ s)
