@@ -2,16 +2,22 @@
 #![tactic(auto)]
 
 ghost use Rattle.std.specs.Prelude.{◌≡◌, List, ℤ};
+ghost use Rattle.definition.specs.declared.Registers as R;
 ghost use Rattle.definition.specs.declared.Error.TheVariants.{InvalidMemoryAccess, Extract};
 ghost use Rattle.definition.specs.Arguments.{indexed, resolve, resolved, cell_there, extract_cell};
 ghost use Rattle.definition.specs.Exec.{core, take_word, take_address, or_given, read};
 ghost use Rattle.definition.specs.Instructions.{cell_of, word_of, target_of, register_word, place_of};
 ghost use Rattle.memory.specs.Overlay.{overlay};
-ghost use Rattle.registers.specs.Meaning.{res_of, planned, core_of};
+ghost use Rattle.registers.specs.Meaning.{res_of};
+ghost use Rattle.arguments.specs.Seen.{cells_of};
 
 use definition::{Cell, Error, Missing, Operand, Reg, Registers, Word};
 use memory::Write;
-use registers::Plan;
+
+// The cells as an instruction sees them: those lent, and the one write that waits. Beside the registers, which are changed where these are
+// only read: in one struct, each contract would have to say that the cells stay.
+#[derive(Clone, Copy)]
+pub struct Seen<'a>(pub &'a [i64], pub Option<Write>);
 
 // "an indexed sum wraps at 64 bits before it is tested as an address"
 #[tactic(auto, using(word::proofs::Laws::back), unfolding(definition::specs::Arguments::indexed, definition::specs::Word::wrap, definition::specs::Word::wrapped))]
@@ -52,36 +58,35 @@ fn count_base(s: &mut Registers, x: Operand)
 
 // The cell at an address that may be none.
 #[tactic(auto, unfolding(definition::specs::Arguments::cell_there, definition::specs::Arguments::read_there))]
-fn cell_there(cells: &[i64], write: Option<Write>, n: Option<u32>) -> Result<Cell, Missing>
-    ensures { result ≡ cell_there n (overlay write cells.now) }
+fn cell_there(seen: &Seen<'_>, n: Option<u32>) -> Result<Cell, Missing>
+    ensures { result ≡ cell_there n (cells_of seen.now) }
 {
     let n = n.ok_or(Missing::NoAddress)?;
-    memory::read_over(cells, write, n).ok_or(Missing::OutsideCells)
+    memory::read_over(seen.0, seen.1, n).ok_or(Missing::OutsideCells)
 }
 
 // ExtractValue: Imm, Reg, Dir, Ind, Idx
 #[tactic(auto, using(word::proofs::Laws::back), unfolding(definition::specs::Arguments::extract_cell))]
-fn extract_cell(cells: &[i64], p: &Plan, x: Operand) -> Result<Cell, Missing>
-    ensures { result ≡ extract_cell x (planned cells.now p.now) p.now.s }
+fn extract_cell(seen: &Seen<'_>, s: &Registers, x: Operand) -> Result<Cell, Missing>
+    ensures { result ≡ extract_cell x (cells_of seen.now) s.now }
 {
     match x {
         Operand::Absent => Err(Missing::NoAddress),
         Operand::Imm(w) => Ok(memory::word_cell(w)),
-        Operand::Register(r) => Ok(registers::get_reg(&p.s, r)),
+        Operand::Register(r) => Ok(registers::get_reg(s, r)),
         Operand::Dir(_) | Operand::Ind(_) | Operand::Idx(_, _) => {
-            cell_there(cells, p.write, resolve(&p.s, x))
+            cell_there(seen, resolve(s, x))
         }
     }
 }
 
 // The operand's cell.
 #[tactic(auto, unfolding(registers::specs::Meaning::res_of, definition::specs::Exec::or_given))]
-pub fn cell_of(cells: &[i64], p: &mut Plan, x: Operand) -> Result<Cell, Error>
-    ensures value { res_of result (core_of cells.now p.new) ≡ cell_of x (core_of cells.now p.old) }
-    ensures write { p.new.write ≡ p.old.write }
+pub fn cell_of(seen: &Seen<'_>, s: &mut Registers, x: Operand) -> Result<Cell, Error>
+    ensures { res_of result (core (cells_of seen.now) s.new) ≡ cell_of x (core (cells_of seen.now) s.old) }
 {
-    let given = extract_cell(cells, p, x);
-    count_base(&mut p.s, x);
+    let given = extract_cell(seen, s, x);
+    count_base(s, x);
     Ok(given?)
 }
 
@@ -110,22 +115,20 @@ pub fn take_address(s: &mut Registers, v: Cell, error: Error) -> Result<u32, Err
 
 // The operand's word.
 #[tactic(auto, unfolding(registers::specs::Meaning::res_of, definition::specs::Exec::and_then))]
-pub fn word_of(cells: &[i64], p: &mut Plan, x: Operand) -> Result<i64, Error>
-    ensures value { res_of result (core_of cells.now p.new) ≡ word_of x (core_of cells.now p.old) }
-    ensures write { p.new.write ≡ p.old.write }
+pub fn word_of(seen: &Seen<'_>, s: &mut Registers, x: Operand) -> Result<i64, Error>
+    ensures { res_of result (core (cells_of seen.now) s.new) ≡ word_of x (core (cells_of seen.now) s.old) }
 {
-    let v = cell_of(cells, p, x)?;
-    take_word(&mut p.s, v, Error::Extract)
+    let v = cell_of(seen, s, x)?;
+    take_word(s, v, Error::Extract)
 }
 
 // The operand's word, a jump's target.
 #[tactic(auto, unfolding(registers::specs::Meaning::res_of, definition::specs::Exec::and_then))]
-pub fn target_of(cells: &[i64], p: &mut Plan, x: Operand) -> Result<u32, Error>
-    ensures value { res_of result (core_of cells.now p.new) ≡ target_of x (core_of cells.now p.old) }
-    ensures write { p.new.write ≡ p.old.write }
+pub fn target_of(seen: &Seen<'_>, s: &mut Registers, x: Operand) -> Result<u32, Error>
+    ensures { res_of result (core (cells_of seen.now) s.new) ≡ target_of x (core (cells_of seen.now) s.old) }
 {
-    let v = cell_of(cells, p, x)?;
-    take_address(&mut p.s, v, Error::Extract)
+    let v = cell_of(seen, s, x)?;
+    take_address(s, v, Error::Extract)
 }
 
 // The word of a register.
@@ -149,8 +152,8 @@ pub fn place_of(s: &mut Registers, x: Operand) -> Result<u32, Error>
 
 // A cell read at an address of the machine's own: pc, sp, or where pc and sr are saved.
 #[tactic(auto, unfolding(registers::specs::Meaning::res_of, definition::specs::Exec::or_cell))]
-pub fn read(cells: &[i64], p: &Plan, n: u32) -> Result<Cell, Error>
-    ensures { res_of result (core_of cells.now p.now) ≡ read n InvalidMemoryAccess (core_of cells.now p.now) }
+pub fn read(seen: &Seen<'_>, n: u32) -> Result<Cell, Error>
+    ensures { (s : R.Registers) → res_of result (core (cells_of seen.now) s) ≡ read n InvalidMemoryAccess (core (cells_of seen.now) s) }
 {
-    memory::read_over(cells, p.write, n).ok_or(Error::InvalidMemoryAccess)
+    memory::read_over(seen.0, seen.1, n).ok_or(Error::InvalidMemoryAccess)
 }

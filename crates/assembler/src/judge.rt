@@ -40,10 +40,8 @@ pub fn ruled(verdict: Result<(), Refusal>, body: Body, k: usize) -> Result<(), R
     requires { k < 18446744073709551615 }
     ensures { result ≡ ruled verdict (exceeds (body_told body)) k }
 {
-    match verdict {
-        Ok(()) => check(!exceeds(body), Refusal::Value(k as u64 + 1)),
-        Err(refusal) => Err(refusal),
-    }
+    verdict?;
+    check(!exceeds(body), Refusal::Value(k as u64 + 1))
 }
 
 // Of a text that is whole, with at most so many lines.

@@ -24,7 +24,7 @@ pub fn assemble(text: &[u8], image: &mut [i64]) -> Counted
 }
 
 // How many cells were filled.
-fn fill(text: &[u8], image: &mut [i64]) -> Result<u64, Refusal>
+pub fn fill(text: &[u8], image: &mut [i64]) -> Result<u64, Refusal>
     ensures { called (counted_of result) image.new ≡ assemble_call text.now image.old }
 {
     check(image.len() % 3 == 0, Refusal::Image)?;

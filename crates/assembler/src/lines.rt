@@ -9,7 +9,8 @@ use definition::answers::Refusal;
 use expression::labels::Labels;
 use line::content::row;
 
-// The count of lines of a text that has room and is in order, or the first line, from 1, that is not.
+// The count of lines of a text that has room and is in order, or the first line, from 1, that is not. A while, as a for over the
+// room would ask for the text's end twice, in it and after it.
 pub fn count_lines(text: &[u8], labels: &Labels, room: usize) -> Result<usize, Refusal>
     ensures { result ≡ shape 0 (rows (values (lookup labels.now)) 32 room text.now) }
 {

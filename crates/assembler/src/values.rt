@@ -10,6 +10,7 @@ ghost use Rattle.line.specs.Code.{arg_told, body_told};
 use definition::Cell;
 use line::{Arg, Body};
 
+// Of an operand, here and below, one match each, as the definition has them: with an Option of its value only two would be of one shape.
 pub fn arg_misses(arg: Arg) -> bool
     ensures { result ≡ arg_misses (arg_told arg) }
 {
@@ -49,6 +50,7 @@ pub fn exceeds(body: Body) -> bool
     }
 }
 
+// "r is 0 where the mode has no register."
 pub fn arg_register(arg: Arg) -> u32
     ensures { result ≡ arg_register (arg_told arg) }
 {
@@ -58,6 +60,7 @@ pub fn arg_register(arg: Arg) -> u32
     }
 }
 
+// "First and second hold the operands' numbers, 0 where the mode has none."
 pub fn arg_number(arg: Arg) -> i64
     ensures { result ≡ arg_number (arg_told arg) }
 {
@@ -79,11 +82,7 @@ pub fn body_cell(body: Body) -> Cell
     ensures { result ≡ body_cell (body_told body) }
 {
     match body {
-        Body::Word(v) => Cell {
-            tag: 1,
-            first: v.value,
-            second: 0,
-        },
+        Body::Word(v) => memory::word_cell(v.value),
         Body::Code(op, x, y) => Cell {
             tag: tag(op, x, y) as i64,
             first: arg_number(x),

@@ -8,6 +8,7 @@ use native.Mathlib.Decide.{ℕ_discrete}
 use lib.IntN.{ℤ, pos, nat_abs}
 use lib.ListN.{length, get_or, take, drop}
 use lib.Dec.{leb, eqb}
+use Rattle.std.specs.List.{list_all, range_with_len}
 use borrow.Author.Tests.{leb-true, ne_eqb}
 use Rattle.definition.specs.Constants.{QUEUE-MOST, OUTPUT-MOST, ROW}
 use Rattle.definition.specs.Memory.{cell_count, put_cell}
@@ -56,6 +57,16 @@ module _ (j : List ℤ) (h : is_journal j ≡ true) (k : 1 ≤ count_of j) where
 
 -- ---- the tests
 
+and-swap : (x y z : Bool) → (x && (y && z)) ≡ (y && (x && z))
+and-swap true y z = refl
+and-swap false true z = refl
+and-swap false false z = refl
+
+all-last : (t : ℕ → Bool) (a i j : ℕ) → a + i ≡ j → list_all t (range_with_len a (suc i)) ≡ (t j && list_all t (range_with_len a i))
+all-last t a zero j e = let f : a ≡ j = omega arith in ap (λ (x : ℕ). t x && true) f
+all-last t a (suc i) j e =
+    ap (λ (y : Bool). t a && y) (all-last t (a + 1) i j (omega arith)) ∙ and-swap (t a) (t j) (list_all t (range_with_len (a + 1) i))
+
 module _ (n : ℕ) (r : List ℤ) where
   abbrev pub fits_at : ℕ → Bool
   fits_at i = is_below n (get_or r (21 + 4 * i) (pos 0)) && sound (held_in r i).cell
@@ -68,20 +79,10 @@ module _ (n : ℕ) (r : List ℤ) where
   unfolding held_fit
   fit_more i = and-and (is_below n (get_or r (21 + 4 * i) (pos 0))) (sound (held_in r i).cell) (held_fit n r i)
 
-  fit_back : (i : ℕ) → 0 < i → held_fit n r i ≡ (fits_at (i - 1) && held_fit n r (i - 1))
-  fit_back zero h = absurd (omega arith)
-  fit_back (suc i) h = let e : i ≡ suc i - 1 = omega arith in fit_more i ∙ ap (λ (x : ℕ). fits_at x && held_fit n r x) e
-
-  pub fit-on : (i : ℕ) {b : Bool} → 0 < i → b ≡ fits_at (i - 1) → b ≡ true → held_fit n r (i - 1) ≡ held_fit n r i
-  fit-on i h e t = sym (fit_back i h ∙ ap (λ (x : Bool). x && held_fit n r (i - 1)) (sym e ∙ t))
-
-  pub fit-off : (i : ℕ) {b : Bool} → 0 < i → b ≡ fits_at (i - 1) → b ≡ false → false ≡ held_fit n r i
-  fit-off i h e t = sym (fit_back i h ∙ ap (λ (x : Bool). x && held_fit n r (i - 1)) (sym e ∙ t))
-
-  pub fit-none : (i : ℕ) → i ≤ 0 → true ≡ held_fit n r i
+  pub fit-list : (k : ℕ) → list_all fits_at (range_with_len 0 k) ≡ held_fit n r k
   unfolding held_fit
-  fit-none zero h = refl
-  fit-none (suc i) h = absurd (omega arith)
+  fit-list zero = refl
+  fit-list (suc i) = all-last fits_at 0 i i (omega arith) ∙ ap (λ (x : Bool). fits_at i && x) (fit-list i) ∙ sym (fit_more i)
 
 -- its number of cells
 pub few-cells : (r : List ℤ) {b : Bool} → b ≡ is_below 5 (get_or r ROW (pos 0)) → b ≡ true → {k : ℕ} → k ≡ writes_in r → k ≤ 4

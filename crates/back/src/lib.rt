@@ -46,12 +46,7 @@ fn held_fit(kept: &[i64; NUMBERS], n: usize, k: usize) -> bool
     requires { k ≤ WRITES-MOST }
     ensures { result ≡ held_fit n kept.now k }
 {
-    for i in (0..k).rev() {
-        if !held_fits(kept, n, i) {
-            return false;
-        }
-    }
-    true
+    (0..k).all(|i| held_fits(kept, n, i))
 }
 
 // "or the record gone back to holds not 0 to 4 cells, or a row or cell that 4, 5 or 8 would refuse"
@@ -89,7 +84,7 @@ fn put_held(cells: &mut [i64], kept: &[i64; NUMBERS], i: usize)
     ensures { cells.new ≡ put_cell cells.old (held_in kept.now i).address (held_in kept.now i).cell }
 {
     let address = row::number_at(kept, 21 + 4 * i) as usize;
-    memory::put_cell(cells, address, row::cell_at(kept, 22 + 4 * i));
+    memory::put_cell(cells, address, memory::cell_from(kept, 22 + 4 * i));
 }
 
 // "last written cell first"

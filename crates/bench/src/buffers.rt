@@ -4,7 +4,7 @@ ghost use Rattle.bench.specs.Bench.{seats_fit, part_of};
 
 use std::ops::Range;
 
-// "each in equal parts, seat 1 first": where that of place k, from 0, of n, lies.
+// "each in equal parts, seat 1 first": where that of place k, from 0, of n, lies. No struct of the two: k goes over the seats, n stays.
 pub fn range(len: usize, n: usize, k: usize) -> Range<usize>
     requires { k < n }
     ensures { (result.start ≡ k * (len / n)) × ((result.end ≡ k * (len / n) + len / n) × (result.end ≤ len)) }

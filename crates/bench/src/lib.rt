@@ -10,7 +10,7 @@ use definition::answers::Refusal;
 
 pub mod buffers;
 
-// "its step limit, steps used and last stop"
+// "its step limit, steps used and last stop", as C holds it: a stop by its number.
 #[repr(C)]
 #[derive(Clone, Copy)]
 pub struct Seat {
@@ -57,7 +57,7 @@ pub fn any_can_go_on(list: &[Seat]) -> bool
     list.iter().any(|seat| seat.can_go_on())
 }
 
-// The call's answer. seat: the one that a refusal is about, from 1, or 0.
+// The call's answer, as C reads it. seat: the one that a refusal is about, from 1, or 0.
 #[repr(C)]
 #[derive(Clone, Copy)]
 pub struct Benched {
@@ -106,7 +106,8 @@ impl From<Result<u64, Refused>> for Benched {
     }
 }
 
-// "A bench record stored in 32 bits is taken over with every number equal."
+// "A bench record stored in 32 bits is taken over with every number equal." Three numbers and no From: C hands them over so, and the old
+// record has no type here.
 pub fn take_over(limit: u32, used: u32, stop: u32) -> Seat
     ensures { result ≡ record { limit = limit; used = used; stop = stop } }
 {

@@ -5,20 +5,17 @@ ghost use Rattle.definition.specs.Calls.{called, set_register, with_register};
 ghost use Rattle.definition.specs.Answers.{done_of};
 
 use definition::answers::Refusal;
-use definition::{Cell, places};
+use definition::places;
 
+// r is C's number: of 0 to 3, once set_register_check has let it pass.
 pub fn put_register(row: &mut [i64], r: u64, w: i64)
     requires { length row.old ≡ ROW }
     ensures { row.new ≡ with_register r w row.old }
 {
-    let v = Cell {
-        tag: 1,
-        first: w,
-        second: 0,
-    };
+    let v = memory::word_cell(w);
     match r {
-        0 => row::put_cell(row, places::A, v),
-        1 => row::put_cell(row, places::B, v),
+        0 => memory::cell_into(row, places::A, v),
+        1 => memory::cell_into(row, places::B, v),
         2 => row[places::PC] = w,
         _ => row[places::SP] = w,
     }

@@ -41,7 +41,7 @@ pub fn is_below(z: i64, n: u64) -> bool
     u64::try_from(z).is_ok_and(|k| k < n)
 }
 
-// 0 to n
+// 0 to n, and not is_below of n + 1, which may not fit
 fn is_within(z: i64, n: u64) -> bool
     ensures { result ≡ is_below (suc n) z }
 {
@@ -65,7 +65,7 @@ pub fn sound_at(row: &[i64], i: usize) -> bool
     requires { i + 2 < length row.now }
     ensures { result ≡ sound (cell (get_or row.now i (pos 0)) (get_or row.now (i + 1) (pos 0)) (get_or row.now (i + 2) (pos 0))) }
 {
-    encoding::is_sound(row::cell_at(row, i))
+    encoding::is_sound(memory::cell_from(row, i))
 }
 
 // "4. [...] its number at this place (from 1, the lowest such) is out of range"
@@ -125,7 +125,7 @@ fn row_numbers(row: &[i64; places::ROW], q: usize, o: usize, n: usize) -> Result
 }
 
 // "4. The row is not 16 long, or its number at this place [...] is out of range", and with the timer "20 numbers". The queue has q places, the
-// output record o, and there are n cells.
+// output record o, and there are n cells: three numbers and no struct, since each call is lent others of them, and puts the most for those it is not.
 pub fn row_check(row: &[i64], q: usize, o: usize, n: usize) -> Result<(), Refusal>
     ensures { done_of result ≡ verdict (row_tests q o n row.now) }
 {
@@ -137,6 +137,8 @@ pub fn row_check(row: &[i64], q: usize, o: usize, n: usize) -> Result<(), Refusa
 pub fn damage_check(cells: &[i64]) -> Result<(), Refusal>
     ensures { done_of result ≡ verdict (damage_test cells.now ∷ []) }
 {
-    let n = encoding::lowest_damaged(cells);
-    check(n == cells.len() / 3, Refusal::DamagedCell(n as u64))
+    match encoding::lowest_damaged(cells) {
+        None => Ok(()),
+        Some(n) => Err(Refusal::DamagedCell(n as u64)),
+    }
 }

@@ -1,6 +1,8 @@
 -- Laws of a run.
 use Rattle.std.specs.Prelude.{◌≡◌, ℕ, suc, ◌+◌, ◌-◌, ◌<◌, ◌≤◌, Result, Ok, Err}
 use Rattle.std.proofs.Common.{sym, ◌∙◌, ap, subst, arith}
+use Rattle.definition.specs.declared.Stop.{Stop}
+use Rattle.definition.specs.Exception.{stop_number, stop_detail}
 use Rattle.definition.specs.Total.{TOTAL-MOST, total}
 use Rattle.definition.specs.Runtime as M
 use Rattle.definition.specs.Runtime.{Machine, Run, runs, uncounted}
@@ -8,13 +10,12 @@ use Rattle.definition.specs.Accepted.{AcceptedMachine}
 use Rattle.definition.proofs.Total.{total-plain, total-assoc}
 use Rattle.definition.proofs.Accepted.{OutcomeHas, Stepped, step-accepted, uncounted-in, run-most}
 use Rattle.definition.proofs.Budgets.{later-zero}
-use Rattle.runtime.specs.declared.Stop.{Stop}
 use Rattle.runtime.specs.Meaning.{outcome_of}
 
 -- After a step the machine stays accepted.
 pub next_accepted : (m n : Machine) (r : Result (Unit {0}) Stop) → AcceptedMachine m → outcome_of r n ≡ M.step m → AcceptedMachine (uncounted n)
 next_accepted m n (Ok u) a e = uncounted-in n (subst (OutcomeHas Stepped) (sym e) (step-accepted m a))
-next_accepted m n (Err x) a e = uncounted-in n (subst (OutcomeHas Stepped) (sym e) (step-accepted m a)).1
+next_accepted m n (Err x) a e = uncounted-in n (subst (OutcomeHas Stepped) (sym e) (step-accepted m a))
 
 -- nothing more was taken
 total_none : (t : ℕ) → t ≤ TOTAL-MOST → t ≡ total t 0
@@ -37,11 +38,11 @@ module _ (k b t : ℕ) (m n : Machine) (h : k < b) where
       ∙ ap (λ (o : M.Outcome). M.later k t (M.go_on o (M.run (b - (k + 1))))) e
       ∙ sym (ap (λ (x : ℕ). M.later k t (M.run x m)) next)
 
-  pub run_ended : (s : Stop) → t ≤ TOTAL-MOST → M.stopped s.number s.detail n ≡ M.step m → runs s.number s.detail k t (uncounted n) ≡ M.later k t (M.run (b - k) m)
+  pub run_ended : (s : Stop) → t ≤ TOTAL-MOST → M.stopped s n ≡ M.step m → runs (stop_number s) (stop_detail s) k t (uncounted n) ≡ M.later k t (M.run (b - k) m)
   unfolding M.run M.go_on M.later
   run_ended s f e =
       let z : k ≡ k + 0 = omega arith in
-      (λ i. runs s.number s.detail (z i) (total_none t f i) (uncounted n))
+      (λ i. runs (stop_number s) (stop_detail s) (z i) (total_none t f i) (uncounted n))
       ∙ ap (λ (o : M.Outcome). M.later k t (M.go_on o (M.run (b - (k + 1))))) e
       ∙ sym (ap (λ (x : ℕ). M.later k t (M.run x m)) next)
 

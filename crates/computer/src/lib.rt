@@ -1,4 +1,5 @@
-// Computer::step and Computer::run of mod.rs, over lent cells, queue and output record.
+// Computer::step and Computer::run of mod.rs, over lent cells, queue and output record. They are parameters, here as in runtime and noting, and
+// AcceptedMachine is asked of them together: a struct of loans would have to say at each call that they are still the caller's, as seats' AreSame does.
 #![tactic(auto)]
 
 ghost use Rattle.std.specs.Prelude.{◌≡◌};
@@ -6,10 +7,10 @@ ghost use Rattle.definition.specs.Runtime.{step, run};
 ghost use Rattle.definition.specs.Accepted.{AcceptedMachine};
 ghost use Rattle.row.specs.Meaning.{machine_at};
 ghost use Rattle.runtime.specs.Meaning.{outcome_of};
-ghost use Rattle.computer.specs.Meaning.{run_of};
+ghost use Rattle.computer.specs.Meaning.{run_of, ran_of};
 
+use definition::{Ran, Stop};
 use row::State;
-use runtime::Stop;
 
 // Where a run got: its stop, unless the budget is spent.
 #[derive(Clone, Copy)]
@@ -18,6 +19,29 @@ pub struct Ended {
     pub steps: u64,
     // The words taken from empty cells, over the completed steps.
     pub empty: u64,
+}
+
+// The answer of a run that isn't refused.
+impl From<Ended> for Ran {
+    ghost from_gives = { λ e a. a ≡ ran_of e };
+
+    fn from(e: Ended) -> Ran
+        ensures { result ≡ ran_of e }
+    {
+        let (stop, detail) = match e.stop {
+            Some(s) => (s.number(), s.detail()),
+            // "0 budget spent"
+            None => (0, 0),
+        };
+        Ran {
+            refusal: 0,
+            place: 0,
+            stop,
+            detail,
+            steps: e.steps,
+            empty: e.empty,
+        }
+    }
 }
 
 // Computer::step: what it does is decided first, and then written.

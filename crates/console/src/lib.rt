@@ -11,7 +11,7 @@ const STATUS_PORT: u32 = 110;
 
 const DATA_PORT: u32 = 111;
 
-// The console without its bytes.
+// The console without its bytes: C lends those anew with each call, and the row keeps places and counts.
 #[derive(Clone, Copy)]
 pub struct ConsoleState {
     pub marks: Marks,
@@ -86,7 +86,7 @@ pub fn put_byte(output: &mut [u8], at: usize, byte: u8)
     output[at] = byte;
 }
 
-// Delivered bytes, one after another from this place of the queue on.
+// Delivered bytes, one after another from this place of the queue on: byte by byte, since nothing here bounds how often they wrap.
 pub fn put_bytes(queue: &mut [u8], at: usize, bytes: &[u8])
     requires { at < length queue.old }
     ensures { queue.new ≡ put_bytes at bytes.now queue.old }

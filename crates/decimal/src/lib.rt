@@ -5,6 +5,7 @@ ghost use Rattle.std.specs.Prelude.{◌≡◌, ◌<◌, leb};
 ghost use Rattle.decimal.specs.Decimal.{cap_step, limit, value_of};
 
 // A digit more; what is larger than every number is 2^63 + 1. No Option: the digits go on, and with a minus 2^63 still is a number.
+// d < 10 is asked for here and by both readers, and no type of digits: the arm b'0'..=b'9' that calls them shows it.
 pub fn grown(size: u64, d: u8) -> u64
     requires { d < 10 }
     ensures { result ≡ cap_step size d }
@@ -25,7 +26,7 @@ pub fn limit_of(minus: bool) -> u64
     }
 }
 
-// "within 64 bits"
+// "within 64 bits"; a sign and a size apart: two readers hold the size as an Option, and a third has no struct of the two.
 pub fn is_within(minus: bool, size: u64) -> bool
     ensures { result ≡ leb size (limit minus) }
 {

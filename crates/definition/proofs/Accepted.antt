@@ -12,12 +12,14 @@ use lib.Dec.{ltb, leb, eqb}
 use borrow.Author.Tests.{ltb-true, ltb-false, leb-false}
 use Rattle.definition.specs.declared.Marks.{Marks}
 use Rattle.definition.specs.declared.Timer.{Timer}
+use Rattle.definition.specs.declared.Stop.{Stop}
+use Rattle.definition.specs.declared.Stop.TheVariants as S
 use Rattle.definition.specs.declared.Error.{Error}
 use Rattle.definition.specs.declared.Error.TheVariants.{DivByZero, InvalidInstruction, PrivilegedInstruction, Trap, InvalidMemoryAccess, CellError, Extract, InvalidPc, InvalidSp, InvalidSr, Reset}
 use Rattle.definition.specs.declared.Ran.{Ran}
 use Rattle.definition.specs.Constants.{CYCLES-END, TIMER-INTERVAL-PORT}
 use Rattle.definition.specs.Total.{TOTAL-MOST}
-use Rattle.definition.specs.Exception.{ending, HARDWARE-INTERRUPT, NO-HANDLER, OUTPUT-FULL, CYCLES-FULL}
+use Rattle.definition.specs.Exception.{ending, HARDWARE-INTERRUPT, stop_number}
 use Rattle.definition.specs.Memory.{word}
 use Rattle.definition.specs.Registers.{interrupt_enable}
 use Rattle.definition.specs.Io.{Console, with_marks, input_ready, status, read_status, write_control, around, read_data, read_port, write_data, write_port, output_full}
@@ -28,7 +30,6 @@ use Rattle.definition.specs.Runtime.{Machine, with_core, with_cycles, with_conso
 use Rattle.definition.specs.Calls.{Lent, lent_machine, lent_of, Called, run_check, ran, run_refused, run_call}
 use Rattle.definition.specs.UserMode.{Accepted}
 use Rattle.definition.specs.Accepted.{Sound, AcceptedCore, ConsoleIn, TimerIn, AcceptedMachine, RunsAccepted}
--- Not cited: the table is proved first, so that a wrong rule is refused at a row that shows it.
 use Rattle.definition.proofs.Total.{total-most}
 use Rattle.definition.proofs.Ticks.{tick-in, entry_in, set-in}
 use Rattle.definition.proofs.Keeps.{Good, k-set, attempt-keeps}
@@ -89,15 +90,15 @@ pub record Both (m : Machine) : Type 0 where
   pub console_in : ConsoleIn m.console
   pub timer_in : TimerIn m.timer
 
--- P holds of the machine, and a stop's number is not 0
+-- P holds of the machine, wherever the step arrives
 abbrev TurnHas : (Machine → Type 0) → Turn → Type 0
 TurnHas P (completes m) = P m
 TurnHas P (enters k m) = P m
-TurnHas P (stops n d m) = (1 ≤ n) × P m
+TurnHas P (stops s m) = P m
 
 abbrev pub OutcomeHas : (Machine → Type 0) → Outcome → Type 0
 OutcomeHas P (completed m) = P m
-OutcomeHas P (stopped n d m) = (1 ≤ n) × P m
+OutcomeHas P (stopped s m) = P m
 
 -- one part changed
 both-core : (m : Machine) (c : Core) → Both m → AcceptedCore m.fence c → Both (with_core c m)
@@ -119,12 +120,12 @@ ends-in InvalidInstruction m b = b
 ends-in PrivilegedInstruction m b = b
 ends-in Trap m b = b
 ends-in InvalidMemoryAccess m b = b
-ends-in CellError m b = (omega arith, b)
-ends-in Extract m b = (omega arith, b)
-ends-in InvalidPc m b = (omega arith, b)
-ends-in InvalidSp m b = (omega arith, b)
-ends-in InvalidSr m b = (omega arith, b)
-ends-in Reset m b = (omega arith, b)
+ends-in CellError m b = b
+ends-in Extract m b = b
+ends-in InvalidPc m b = b
+ends-in InvalidSp m b = b
+ends-in InvalidSr m b = b
+ends-in Reset m b = b
 
 poll-in : (m : Machine) → Both m → TurnHas Both (poll m)
 unfolding poll
@@ -153,8 +154,8 @@ serve-in m (Reads p r) cost c b f =
     conclude-in cost (with_console (read_port p m.console).1 m) (set_register r (word (pos (read_timer p m.timer (read_port p m.console).0))) c) (both-console m _ b (read-in p m.console b.console_in)) ((k-set 0 (AcceptedCore m.fence) Sound (Unit {0}) (λ (q : Request). Unit {0}) (any_laws 0 m.fence) r _ (word_sound _)).at c f)
 serve-in m (Writes p w) cost c b f = go (output_full p m.console) refl (eqb p TIMER-INTERVAL-PORT)
   where
-    go : (t : Bool) → output_full p m.console ≡ t → (d : Bool) → TurnHas Both (cond t (stops OUTPUT-FULL 0 m) (cond d (poll (with_timer (set_timer w m.timer) (executed cost c m))) (conclude cost (with_console (write_port p w m.console) m) (ok tt c))))
-    go true e d = (omega arith, b)
+    go : (t : Bool) → output_full p m.console ≡ t → (d : Bool) → TurnHas Both (cond t (stops S.OutputFull m) (cond d (poll (with_timer (set_timer w m.timer) (executed cost c m))) (conclude cost (with_console (write_port p w m.console) m) (ok tt c))))
+    go true e d = b
     go false e true = poll-in _ (both-timer (executed cost c m) _ (executed-in cost c m b f) (set-in w m.timer))
     go false e false =
         conclude-in cost (with_console (write_port p w m.console) m) (ok tt c) (both-console m _ b (write-in p w m.console b.console_in e)) (tt, f)
@@ -173,10 +174,10 @@ unfolding settle recover elapses
 settle-in (completes m) b = b
 settle-in (enters k m) b = go (has_handler m.core.cells)
   where
-    go : (t : Bool) → OutcomeHas Both (elapses k (cond t (completed (entered k m)) (stopped NO-HANDLER k m)))
+    go : (t : Bool) → OutcomeHas Both (elapses k (cond t (completed (entered k m)) (stopped (S.NoHandler k) m)))
     go true = both-timer (entered k m) _ (entered-in k m b) (entry_in k _ (entered-in k m b).timer_in)
-    go false = (omega arith, b)
-settle-in (stops n d m) b = b
+    go false = b
+settle-in (stops s m) b = b
 
 -- what acceptance says, but for the step's count of empty cells, which starts again with the next step
 pub record Stepped (m : Machine) : Type 0 where
@@ -194,14 +195,14 @@ limit-in : (m : Machine) → Stepped m → (o : Outcome) → OutcomeHas Both o �
 unfolding limit reached
 limit-in m a (completed m') h = go (ltb m'.cycles CYCLES-END) refl
   where
-    go : (b : Bool) → ltb m'.cycles CYCLES-END ≡ b → OutcomeHas Stepped (cond b (completed m') (stopped CYCLES-FULL 0 m))
+    go : (b : Bool) → ltb m'.cycles CYCLES-END ≡ b → OutcomeHas Stepped (cond b (completed m') (stopped S.CyclesFull m))
     go true e = record { both = h; cycles_in = ltb-true _ _ e }
-    go false e = (omega arith, a)
-limit-in m a (stopped n d m') h = go (ltb m'.cycles CYCLES-END) refl
+    go false e = a
+limit-in m a (stopped s m') h = go (ltb m'.cycles CYCLES-END) refl
   where
-    go : (b : Bool) → ltb m'.cycles CYCLES-END ≡ b → OutcomeHas Stepped (cond b (stopped n d m') (stopped CYCLES-FULL 0 m))
-    go true e = (h.0, record { both = h.1; cycles_in = ltb-true _ _ e })
-    go false e = (omega arith, a)
+    go : (b : Bool) → ltb m'.cycles CYCLES-END ≡ b → OutcomeHas Stepped (cond b (stopped s m') (stopped S.CyclesFull m))
+    go true e = record { both = h; cycles_in = ltb-true _ _ e }
+    go false e = a
 
 pub step-stepped : (m : Machine) → Stepped m → OutcomeHas Stepped (step m)
 unfolding step turn
@@ -219,14 +220,18 @@ pub record RunEnds (n : ℕ) (r : Run) : Type 0 where
   pub spent : r.stop ≡ 0 → r.steps ≡ n
   pub whole : r.steps ≡ n → r.stop ≡ 0
 
+-- no stop has number 0
+pub stop-some : (s : Stop) → 1 ≤ stop_number s
+stop-some s = grind arith
+
 go-on-ends : (n : ℕ) (o : Outcome) (k : Machine → Run) → OutcomeHas Stepped o → ((m : Machine) → AcceptedMachine m → RunEnds n (k m)) → RunEnds (suc n) (go_on o k)
 unfolding go_on later
 go-on-ends n (completed m) k a h =
     let r = h (uncounted m) (uncounted-in m a) in
     record { left_in = r.left_in; within = (let w = r.within in omega arith); spent = λ e. (let s = r.spent e in omega arith); whole = λ e. r.whole (omega arith) }
-go-on-ends n (stopped s d m) k a h =
-    let l = a.0 in
-    record { left_in = uncounted-in m a.1; within = omega arith; spent = λ e. absurd (omega arith); whole = λ e. absurd (omega arith) }
+go-on-ends n (stopped s m) k a h =
+    let l = stop-some s in
+    record { left_in = uncounted-in m a; within = omega arith; spent = λ e. absurd (omega arith); whole = λ e. absurd (omega arith) }
 
 pub run_ends : (n : ℕ) (m : Machine) → AcceptedMachine m → RunEnds n (run n m)
 unfolding run
@@ -237,7 +242,7 @@ run_ends (suc n) m a = go-on-ends n (step m) (run n) (step-accepted m a) (λ m' 
 go-on-most : (o : Outcome) (k : Machine → Run) → (go_on o k).empty ≤ TOTAL-MOST
 unfolding go_on later
 go-on-most (completed m) k = total-most _ _
-go-on-most (stopped n d m) k = omega arith
+go-on-most (stopped s m) k = omega arith
 
 pub run-most : (n : ℕ) (m : Machine) → (run n m).empty ≤ TOTAL-MOST
 unfolding run
@@ -253,10 +258,6 @@ call-is b l h = ap (λ (t : Bool). cond t (ran (run b (lent_machine l))) (run_re
 
 pub call-on : (b : ℕ) (m : Machine) → AcceptedMachine m → run_call b (lent_of m) ≡ ran (run b m)
 call-on b m a = call-is b (lent_of m) (machine-accepted m a) ∙ ap (λ (x : Machine). ran (run b x)) (machine-back m a.none_counted)
-
-ran-left : (r : Run) → (ran r).left ≡ lent_of r.left
-unfolding ran
-ran-left r = refl
 
 pub runs-accepted : RunsAccepted
 unfolding ran

@@ -105,10 +105,6 @@ digit-is true = refl
 digit-is false = refl
 
 module _ (k : ℕ) (on : Bool) (w : ℤ) (h : k < 64) where
-  pub put-sfits : SFits w64 (put_bit k on w)
-  unfolding put_bit
-  put-sfits = sfits_to_z (put-fits k on (bits w) h (bits-fits w))
-
   -- the bit that was put
   pub put_same : bit k (put_bit k on w) ≡ on
   unfolding put_bit
@@ -127,7 +123,7 @@ module _ (k : ℕ) (on : Bool) (w : ℤ) (h : k < 64) where
       apart (suc j) zero n = inr (omega arith)
       apart (suc j) (suc k) n = ⊎_elim (λ p. inl (omega arith)) (λ p. inr (omega arith)) (apart j k (λ e. n (ap suc e)))
 
--- ---- and, or, xor and not, bit by bit
+-- ---- what and, or, xor and not are, bit by bit: for who reads the definition, cited by no other proof
 
 digit-of : (d : ℕ) → d < 2 → d ≡ digit (eqb d 1)
 digit-of zero h = refl

@@ -17,7 +17,7 @@ use Rattle.definition.specs.Accepted.{AcceptedMachine}
 use Rattle.definition.specs.Budgets.{later_call, Adds, in_turn, BudgetsAdd}
 use Rattle.definition.proofs.Total.{total-zero, total-assoc}
 use Rattle.definition.proofs.Row.{accepted-machine}
-use Rattle.definition.proofs.Accepted.{OutcomeHas, Stepped, uncounted-in, step-accepted, run_ends, run-most, call-is, call-on}
+use Rattle.definition.proofs.Accepted.{OutcomeHas, Stepped, uncounted-in, step-accepted, stop-some, run_ends, run-most, call-is, call-on}
 
 -- ---- machines
 
@@ -53,7 +53,7 @@ go-on-through n b k (completed m) a ih e =
     let t = m.core.regs.empties in
     let r = run n (uncounted m) in
     ap (later 1 t) (ih (uncounted m) (uncounted-in m a) (sym (later-stop t r) ∙ e)) ∙ later-suc n t r.empty _ ∙ sym (λ i. later (suc n) (later-empty t r i) (run k (later-left t r i)))
-go-on-through n b k (stopped s d m) a ih e = let l = a.0 in absurd (omega arith)
+go-on-through n b k (stopped s m) a ih e = let l = stop-some s in absurd (omega arith)
 
 run-through : (n k b : ℕ) → n + k ≡ b → (m : Machine) → AcceptedMachine m → (run n m).stop ≡ 0 → run b m ≡ later n (run n m).empty (run k (run n m).left)
 unfolding run
@@ -67,7 +67,7 @@ unfolding go_on
 go-on-ended n b (completed m) a ih e =
     let t = m.core.regs.empties in
     ap (later 1 t) (ih (uncounted m) (uncounted-in m a) (λ z. e (later-stop t (run n (uncounted m)) ∙ z)))
-go-on-ended n b (stopped s d m) a ih e = refl
+go-on-ended n b (stopped s m) a ih e = refl
 
 run-ended : (n k b : ℕ) → n + k ≡ b → (m : Machine) → AcceptedMachine m → (run n m).stop ≢ 0 → run b m ≡ run n m
 unfolding run

@@ -51,7 +51,7 @@ unfolding reached
 stays-clear m (completed w) e (stays u) n = u.clear
 stays-clear m (completed w) e (entry r) n =
     absurd (n (record { code = r.code; moment = r.moment; turns = r.turns; handler = r.handler; leaves = e ∙ ap completed r.leaves }))
-stays-clear m (stopped s d w) e u n = u.clear
+stays-clear m (stopped why w) e u n = u.clear
 
 fenced-by : (m : Machine) → InUser m → (n : ℕ) → BegunClear n m → FencedSteps m n
 unfolding steps

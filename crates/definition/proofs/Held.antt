@@ -1,6 +1,7 @@
 -- Steps begun with S clear: what they leave as it was. The fence stays, and below it every cell but those that entry writes.
 use Rattle.definition.specs.declared.Ending.{Ending}
-use Rattle.definition.specs.declared.Ending.TheVariants.{Exception, Stop}
+use Rattle.definition.specs.declared.Ending.TheVariants.{Exception, Stops}
+use Rattle.definition.specs.declared.Stop.TheVariants.{NoHandler, CyclesFull}
 use Rattle.definition.specs.declared.Executed.{Executed}
 use mathlib.Core.Path.{◌≡◌, refl, sym, ◌∙◌, subst}
 use mathlib.Core.Logic.{◌≢◌}
@@ -12,7 +13,7 @@ use lib.IntN.{ℤ}
 use lib.ListN.{length}
 use lib.Dec.{ltb}
 use Rattle.definition.specs.Constants.{CYCLES-END}
-use Rattle.definition.specs.Exception.{ending, HARDWARE-INTERRUPT, NO-HANDLER, CYCLES-FULL}
+use Rattle.definition.specs.Exception.{ending, HARDWARE-INTERRUPT}
 use Rattle.definition.specs.Memory.{cell_at}
 use Rattle.definition.specs.Timer.{with_timer_mark}
 use Rattle.definition.specs.Registers.{supervisor, interrupt_enable}
@@ -55,7 +56,7 @@ held_on m w x a s b =
 abbrev arrives : Turn → Machine
 arrives (completes m) = m
 arrives (enters k m) = m
-arrives (stops n d m) = m
+arrives (stops s m) = m
 
 -- what is known of it: the fence and the timer's interval are those of m, and so are the cells below the fence
 record Arrives (m w : Machine) : Type 0 where
@@ -66,7 +67,7 @@ record Arrives (m w : Machine) : Type 0 where
 ends_held : (m : Machine) (e : Ending) (w : Machine) → Arrives m w → Arrives m (arrives (ends e w))
 unfolding ends
 ends_held m (Exception k) w a = a
-ends_held m (Stop n d) w a = a
+ends_held m (Stops s) w a = a
 
 poll-held : (m w : Machine) → Arrives m w → Arrives m (arrives (poll w))
 unfolding poll
@@ -126,16 +127,16 @@ unfolding settle recover elapses reached
 settle-held m (completes w) a = arrived-held m w a
 settle-held m (enters k w) a = go (has_handler w.core.cells)
   where
-    go : (b : Bool) → Held m (reached (elapses k (cond b (completed (entered k w)) (stopped NO-HANDLER k w))))
+    go : (b : Bool) → Held m (reached (elapses k (cond b (completed (entered k w)) (stopped (NoHandler k) w))))
     go true = entered-held m w k a
     go false = arrived-held m w a
-settle-held m (stops n d w) a = arrived-held m w a
+settle-held m (stops s w) a = arrived-held m w a
 
 limit-held : (m : Machine) (o : Outcome) → Held m (reached o) → Held m (reached (limit m o))
 unfolding limit reached
 limit-held m o h = go (ltb (reached o).cycles CYCLES-END)
   where
-    go : (b : Bool) → Held m (reached (cond b o (stopped CYCLES-FULL 0 m)))
+    go : (b : Bool) → Held m (reached (cond b o (stopped CyclesFull m)))
     go true = h
     go false = held-here m
 
@@ -150,7 +151,7 @@ ends-user : (m : Machine) (o : Outcome) → OutcomeEnds m o → supervisor (reac
 unfolding reached
 ends-user m (completed w) (stays u) s = u
 ends-user m (completed w) (entry e) s = absurd (true≢false (sym (entry-sets m w e) ∙ s))
-ends-user m (stopped n d w) u s = u
+ends-user m (stopped why w) u s = u
 
 pub step-user : (m : Machine) → InUser m → supervisor (reached (step m)).core.regs ≡ false → InUser (reached (step m))
 step-user m u s = ends-user m (step m) (step-ends m u) s
@@ -176,7 +177,7 @@ go-on-held m (suc b) (completed w) h e s ih =
     let c : supervisor (uncounted w).core.regs ≡ false = s 0 (omega arith) in
     let u = user-uncounted w (ends-user m (completed w) e (clear-uncounted w c)) in
     held_on m (uncounted w) (run (suc b) (uncounted w)).left (held-uncounted m w h) c (ih (uncounted w) u s)
-go-on-held m b (stopped n d w) h e s ih = held-uncounted m w h
+go-on-held m b (stopped why w) h e s ih = held-uncounted m w h
 
 pub run-held : (b : ℕ) (m : Machine) → InUser m → Within b m → Held m (run b m).left
 unfolding run

@@ -34,7 +34,13 @@ use Rattle.definition.specs.Exec.{Core, with_regs, with_cells, Exec, Res, ok, er
 use Rattle.definition.specs.Instructions.{cell_of, word_of, target_of, register_word, place_of, set_register, and_flags, sign_flags, put_result, put_wrapped, put_compared, put_quotient, put_shifted, words, neg, not_op, jump, jump_if, call, rtn, pop_op, push_op, ld, st, fas, swap_back, swap, rti, reset, quiet, in_op, out_op, execute}
 use Rattle.definition.specs.Runtime.{or_instruction, fetch, attempt}
 use Rattle.definition.specs.Accepted.{Addr}
+use Rattle.definition.specs.Course.{Course}
+use Rattle.definition.proofs.Course.{course}
 use Rattle.definition.proofs.Verdict.{and_left, and_right}
+
+-- The table is proved first, so that a wrong rule is refused at a row that shows it.
+shown-first : Course
+shown-first = course
 
 abbrev pub Any : {X : Type 0} → X → Type 0
 Any v = Unit {0}

@@ -9,7 +9,6 @@ pub mod Checked
 pub mod Ticks
 pub mod Keeps
 pub mod AcceptedCore
-pub mod Step
 pub mod UserStep
 pub mod UserRun
 pub mod Writes

@@ -14,15 +14,15 @@ kept : {A L : Type 0} (refusal : A → ℕ) (b : Bool) (done refused : Called A 
 kept refusal true done refused l y n h = absurd (h y)
 kept refusal false done refused l y n h = n
 
-raised-refusal : (cells row : List ℤ) (o : Outcome) → (raised cells row o).answer.refusal ≡ 0
+pub raised-refusal : (cells row : List ℤ) (o : Outcome) → (raised cells row o).answer.refusal ≡ 0
 unfolding raised
 raised-refusal cells row (completed m) = refl
-raised-refusal cells row (stopped n d m) = refl
+raised-refusal cells row (stopped s m) = refl
 
 raised-stop : (cells row : List ℤ) (o : Outcome) → (raised cells row o).answer.stop ≢ 0 → (raised cells row o).left ≡ (cells, row)
 unfolding raised
 raised-stop cells row (completed m) h = absurd (h refl)
-raised-stop cells row (stopped n d m) h = refl
+raised-stop cells row (stopped s m) h = refl
 
 pub refused-keeps : RefusedKeeps
 unfolding fresh run_call ran run_refused deliver drain load set_register raise

@@ -4,6 +4,7 @@ use mathlib.Core.Bool.{false, true≢false}
 use Prim.Native.Nat.{ℕ, zero, suc, ◌+◌, ◌<◌}
 use native.Mathlib.Omega.{arith}
 use Rattle.definition.specs.Total.{total}
+use Rattle.definition.specs.Exception.{stop_number, stop_detail}
 use Rattle.definition.specs.Registers.{supervisor}
 use Rattle.definition.specs.Io.{Console}
 use Rattle.definition.specs.Runtime.{Machine, Outcome, completed, stopped, step, Run, runs, uncounted, later, go_on, run}
@@ -121,8 +122,8 @@ completed-is k₁ (suc b) v w u h ih e (entry en) =
 outcome-is : (k₁ : Console) (b : ℕ) (v : Machine) → InUser v → Within (suc b) (around k₁ v) → ((w : Machine) → InUser w → Within b (around k₁ w) → RunIs b w) → (o : Outcome) → step v ≡ o → OutcomeEnds v o → RunIs (suc b) v
 unfolding run go_on
 outcome-is k₁ b v u h ih (completed w) e f = completed-is k₁ b v w u h ih e f
-outcome-is k₁ b v u h ih (stopped n d w) e f =
-    let q : run (suc b) v ≡ runs n d 0 0 (uncounted w) = ap (λ (o : Outcome). go_on o (run b)) e in
+outcome-is k₁ b v u h ih (stopped s w) e f =
+    let q : run (suc b) v ≡ runs (stop_number s) (stop_detail s) 0 0 (uncounted w) = ap (λ (o : Outcome). go_on o (run b)) e in
     record {
       is = λ k. ap (λ (o : Outcome). go_on o (run b)) (step_is k v u ∙ ap (outcome_around k) e) ∙ sym (ap (run_around k) q);
       end = in-user (subst (λ (r : Run). InUser r.left) (sym q) ((user-laws 0 w.fence).to-empties w.core f 0));

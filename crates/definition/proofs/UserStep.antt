@@ -1,6 +1,7 @@
 -- A step begun with S clear: in another console it does the same, and leaves that console but for the pending mark.
 use Rattle.definition.specs.declared.Ending.{Ending}
-use Rattle.definition.specs.declared.Ending.TheVariants.{Exception, Stop}
+use Rattle.definition.specs.declared.Ending.TheVariants.{Exception, Stops}
+use Rattle.definition.specs.declared.Stop.TheVariants.{NoHandler, CyclesFull}
 use Rattle.definition.specs.declared.Executed.{Executed}
 use Rattle.definition.specs.declared.Request.{Request}
 use mathlib.Core.Path.{◌≡◌, refl, sym, ap, ◌∙◌, subst}
@@ -14,7 +15,7 @@ use Rattle.definition.specs.declared.Error.{Error}
 use Rattle.definition.specs.declared.Error.TheVariants.{DivByZero, InvalidInstruction, PrivilegedInstruction, Trap, InvalidMemoryAccess, CellError, Extract, InvalidPc, InvalidSp, InvalidSr, Reset}
 use Rattle.definition.specs.Constants.{SUPERVISOR, CYCLES-END}
 use Rattle.definition.specs.Word.{bit, put_bit}
-use Rattle.definition.specs.Exception.{ending, HARDWARE-INTERRUPT, NO-HANDLER, CYCLES-FULL}
+use Rattle.definition.specs.Exception.{ending, HARDWARE-INTERRUPT}
 use Rattle.definition.specs.Memory.{word, cell_count, cell_at}
 use Rattle.definition.specs.Registers.{supervisor, interrupt_enable}
 use Rattle.definition.specs.Io.{Console, with_marks, with_pending}
@@ -41,11 +42,11 @@ around k m = with_console (console k m.console.marks.pending) m
 abbrev pub turn_around : Console → Turn → Turn
 turn_around k (completes m) = completes (around k m)
 turn_around k (enters n m) = enters n (around k m)
-turn_around k (stops n d m) = stops n d (around k m)
+turn_around k (stops s m) = stops s (around k m)
 
 abbrev pub outcome_around : Console → Outcome → Outcome
 outcome_around k (completed m) = completed (around k m)
-outcome_around k (stopped n d m) = stopped n d (around k m)
+outcome_around k (stopped s m) = stopped s (around k m)
 
 -- ---- a user-mode step is the same step in every console
 
@@ -58,7 +59,7 @@ attempt-user g f = attempt-keeps g (User f) Sound ⊥ Silent (user-laws g f)
 ends_is : (k : Console) (e : Ending) (m : Machine) → ends e (around k m) ≡ turn_around k (ends e m)
 unfolding ends
 ends_is k (Exception n) m = refl
-ends_is k (Stop n d) m = refl
+ends_is k (Stops s) m = refl
 
 poll-is : (k : Console) (m : Machine) → poll (around k m) ≡ turn_around k (poll m)
 unfolding poll
@@ -96,21 +97,21 @@ unfolding settle recover entered elapses
 settle_is k (completes m) = refl
 settle_is k (enters n m) = go (has_handler m.core.cells)
   where
-    go : (b : Bool) → elapses n (cond b (completed (entered n (around k m))) (stopped NO-HANDLER n (around k m))) ≡ outcome_around k (elapses n (cond b (completed (entered n m)) (stopped NO-HANDLER n m)))
+    go : (b : Bool) → elapses n (cond b (completed (entered n (around k m))) (stopped (NoHandler n) (around k m))) ≡ outcome_around k (elapses n (cond b (completed (entered n m)) (stopped (NoHandler n) m)))
     go true = refl
     go false = refl
-settle_is k (stops n d m) = refl
+settle_is k (stops s m) = refl
 
 limit_is : (k : Console) (m : Machine) (o : Outcome) → limit (around k m) (outcome_around k o) ≡ outcome_around k (limit m o)
 unfolding limit reached
 limit_is k m (completed w) = go (ltb w.cycles CYCLES-END)
   where
-    go : (b : Bool) → cond b (completed (around k w)) (stopped CYCLES-FULL 0 (around k m)) ≡ outcome_around k (cond b (completed w) (stopped CYCLES-FULL 0 m))
+    go : (b : Bool) → cond b (completed (around k w)) (stopped CyclesFull (around k m)) ≡ outcome_around k (cond b (completed w) (stopped CyclesFull m))
     go true = refl
     go false = refl
-limit_is k m (stopped n d w) = go (ltb w.cycles CYCLES-END)
+limit_is k m (stopped s w) = go (ltb w.cycles CYCLES-END)
   where
-    go : (b : Bool) → cond b (stopped n d (around k w)) (stopped CYCLES-FULL 0 (around k m)) ≡ outcome_around k (cond b (stopped n d w) (stopped CYCLES-FULL 0 m))
+    go : (b : Bool) → cond b (stopped s (around k w)) (stopped CyclesFull (around k m)) ≡ outcome_around k (cond b (stopped s w) (stopped CyclesFull m))
     go true = refl
     go false = refl
 
@@ -137,13 +138,13 @@ pub data Ends (m m' : Machine) : Type 0 where
 
 abbrev pub OutcomeEnds : Machine → Outcome → Type 0
 OutcomeEnds m (completed m') = Ends m m'
-OutcomeEnds m (stopped n d m') = InUser m'
+OutcomeEnds m (stopped s m') = InUser m'
 
 -- what is known where a step arrives
 abbrev TurnEnds : Turn → Type 0
 TurnEnds (completes m) = InUser m
 TurnEnds (enters k m) = InUser m × ((k ≤ 5) × (k ≡ 0 → m.console.marks.pending ≡ false))
-TurnEnds (stops n d m) = InUser m
+TurnEnds (stops s m) = InUser m
 
 ending-ends : (e : Error) (m : Machine) → InUser m → TurnEnds (ends (ending e) m)
 unfolding ending ends
@@ -189,22 +190,22 @@ unfolding settle recover elapses
 settle-ends m (completes w) h e = stays e
 settle-ends m (enters k w) h e = go (has_handler w.core.cells) refl
   where
-    go : (b : Bool) → has_handler w.core.cells ≡ b → OutcomeEnds m (elapses k (cond b (completed (entered k w)) (stopped NO-HANDLER k w)))
+    go : (b : Bool) → has_handler w.core.cells ≡ b → OutcomeEnds m (elapses k (cond b (completed (entered k w)) (stopped (NoHandler k) w)))
     go true t =
         entry (record { code = k; moment = w; turns = h; user = e.0; small = e.1.0; handler = t; taken = e.1.1; leaves = refl })
     go false t = e.0
-settle-ends m (stops n d w) h e = e
+settle-ends m (stops s w) h e = e
 
 limit-ends : (m : Machine) → InUser m → (o : Outcome) → OutcomeEnds m o → OutcomeEnds m (limit m o)
 unfolding limit reached
 limit-ends m u (completed w) e = go (ltb w.cycles CYCLES-END)
   where
-    go : (b : Bool) → OutcomeEnds m (cond b (completed w) (stopped CYCLES-FULL 0 m))
+    go : (b : Bool) → OutcomeEnds m (cond b (completed w) (stopped CyclesFull m))
     go true = e
     go false = u
-limit-ends m u (stopped n d w) e = go (ltb w.cycles CYCLES-END)
+limit-ends m u (stopped s w) e = go (ltb w.cycles CYCLES-END)
   where
-    go : (b : Bool) → OutcomeEnds m (cond b (stopped n d w) (stopped CYCLES-FULL 0 m))
+    go : (b : Bool) → OutcomeEnds m (cond b (stopped s w) (stopped CyclesFull m))
     go true = e
     go false = u
 

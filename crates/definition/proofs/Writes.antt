@@ -38,10 +38,6 @@ module _ (g n : ℕ) (v : Cell) (c : Core) where
   write-trapped h = ap (λ (b : Bool). branch b (λ c. ok tt (with_cells (put_cell c.cells n v) c)) (λ c. err InvalidMemoryAccess c) c) h
 
 -- S of the step's beginning decides
-pub guard-set : (m : Machine) → supervisor m.core.regs ≡ true → guard m ≡ 0
-unfolding guard
-guard-set m s = ap (λ (b : Bool). cond b 0 m.fence) s
-
 pub guard-clear : (m : Machine) → supervisor m.core.regs ≡ false → guard m ≡ m.fence
 unfolding guard
 guard-clear m s = ap (λ (b : Bool). cond b 0 m.fence) s

@@ -7,6 +7,8 @@ use Rattle.definition.specs.declared.Drained.{Drained}
 use Rattle.definition.specs.declared.Counted.{Counted}
 use Rattle.definition.specs.declared.CellRead.{CellRead}
 use Rattle.definition.specs.declared.Raised.{Raised}
+use Rattle.definition.specs.declared.Stop.{Stop}
+use Rattle.definition.specs.Exception.{stop_number, stop_detail}
 use Rattle.definition.specs.declared.answers.Refusal.{Refusal}
 use Rattle.definition.specs.declared.answers.Refusal.TheVariants.{Cells, Queue, Output, Row, DamagedCell, QueueRoom, DrainBuffer, Address, Image, Register, Code, ImageLine, Form, Label, Value, EmptyCell, TextRoom, NumericLine, Seats, Journal, NothingKept}
 
@@ -34,30 +36,17 @@ number_of Journal = 20
 number_of NothingKept = 21
 
 abbrev pub place_of : Refusal → ℕ
-place_of Cells = 0
-place_of Queue = 0
-place_of Output = 0
 place_of (Row i) = i
 place_of (DamagedCell n) = n
-place_of QueueRoom = 0
-place_of DrainBuffer = 0
-place_of Address = 0
-place_of Image = 0
-place_of Register = 0
-place_of Code = 0
 place_of (ImageLine n) = n
 place_of (Form n) = n
 place_of (Label n) = n
 place_of (Value n) = n
-place_of EmptyCell = 0
-place_of TextRoom = 0
 place_of (NumericLine n) = n
-place_of Seats = 0
-place_of Journal = 0
-place_of NothingKept = 0
+place_of e = 0
 
 -- A test: what is refused where it did not pass.
-abbrev pub checked : Bool → Refusal → Result (Unit {0}) Refusal
+abbrev pub checked : {E : Type 0} → Bool → E → Result (Unit {0}) E
 checked b e = cond b (Ok tt) (Err e)
 
 abbrev pub refused : Refusal → Done
@@ -84,3 +73,8 @@ cell_read_of (Err e) = record { refusal = number_of e; place = place_of e; tag =
 
 abbrev pub raised_of : Refusal → Raised
 raised_of e = record { refusal = number_of e; place = place_of e; stop = 0; detail = 0 }
+
+-- Of a raise that isn't refused.
+abbrev pub raise_of : Result (Unit {0}) Stop → Raised
+raise_of (Ok _) = record { refusal = 0; place = 0; stop = 0; detail = 0 }
+raise_of (Err s) = record { refusal = 0; place = 0; stop = stop_number s; detail = stop_detail s }

@@ -13,6 +13,7 @@ use Rattle.definition.specs.Memory.{cell, empty, word, cell_count, cell_at}
 use Rattle.definition.specs.Encoding.{sound, is_address}
 use Rattle.definition.specs.Io.{marked, delivered, put_bytes, first_free, drained}
 use Rattle.definition.specs.Timer.{timed}
+use Rattle.definition.specs.Exception.{stop_number, stop_detail}
 use Rattle.definition.specs.Exec.{core}
 use Rattle.definition.specs.Runtime.{Machine, machine, Run, run, Outcome, completed, stopped, recover, limit}
 
@@ -295,7 +296,7 @@ quiet_machine cells row = machine_of cells [] [] row
 unfoldable pub raised : List ℤ → List ℤ → Outcome → Called Raised (List ℤ × List ℤ)
 raised cells row (completed m) =
     called (raise_answer accepted 0 0) (m.core.cells, row_of m)
-raised cells row (stopped n d m) = called (raise_answer accepted n d) (cells, row)
+raised cells row (stopped s m) = called (raise_answer accepted (stop_number s) (stop_detail s)) (cells, row)
 
 -- "Raise is `recover_from_exception` and, added, its one cycle: done, or stop 2, or stop 7."
 unfoldable pub raise : List ℤ → List ℤ → ℕ → Called Raised (List ℤ × List ℤ)

@@ -17,6 +17,14 @@ use Rattle.definition.specs.Memory.{word, extract_word, extract_address}
 abbrev pub regs : List Reg
 regs = A ∷ B ∷ PC ∷ SP ∷ SR ∷ []
 
+-- Its number, as the detail of stop 5 gives it.
+abbrev pub reg_number : Reg → ℕ
+reg_number A = 0
+reg_number B = 1
+reg_number PC = 2
+reg_number SP = 3
+reg_number SR = 4
+
 -- The register of a number; a tag's r is below 5.
 unfoldable pub reg_at : ℕ → Reg
 reg_at r = get_or regs r A

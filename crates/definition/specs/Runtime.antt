@@ -2,7 +2,9 @@
 use Rattle.std.specs.Prelude.{Bool, true, false, cond, ◌&&◌, List, ℕ, zero, suc, ◌+◌, ℤ, pos, ltb, eqb, None, Option, Some}
 use Rattle.definition.specs.declared.Executed.{Executed}
 use Rattle.definition.specs.declared.Ending.{Ending}
-use Rattle.definition.specs.declared.Ending.TheVariants.{Exception, Stop}
+use Rattle.definition.specs.declared.Ending.TheVariants.{Exception, Stops}
+use Rattle.definition.specs.declared.Stop.{Stop}
+use Rattle.definition.specs.declared.Stop.TheVariants.{NoHandler, OutputFull, CyclesFull}
 use Rattle.definition.specs.declared.Instruction.{Instruction}
 use Rattle.definition.specs.declared.Request.{Request}
 use Rattle.definition.specs.declared.Request.TheVariants.{Nothing, Reads, Writes}
@@ -12,7 +14,7 @@ use Rattle.definition.specs.declared.Error.TheVariants.{InvalidInstruction, Inva
 use Rattle.definition.specs.Constants.{INTERRUPT-PC-SAVE, INTERRUPT-SR-SAVE, INTERRUPT-EXCEPTION, INTERRUPT-HANDLER, INTERRUPT-ENABLE, SUPERVISOR, CYCLES-END, TIMER-INTERVAL-PORT}
 use Rattle.definition.specs.Word.{put_bit}
 use Rattle.definition.specs.Total.{total}
-use Rattle.definition.specs.Exception.{ending, HARDWARE-INTERRUPT, BUDGET-SPENT, NO-HANDLER, OUTPUT-FULL, CYCLES-FULL}
+use Rattle.definition.specs.Exception.{ending, HARDWARE-INTERRUPT, BUDGET-SPENT, stop_number, stop_detail}
 use Rattle.definition.specs.Memory.{word, cell_at, put_cell, is_instruction}
 use Rattle.definition.specs.Registers.{with_pc, with_sr, with_empties, supervisor, interrupt_enable}
 use Rattle.definition.specs.Encoding.{extract_instruction}
@@ -71,16 +73,16 @@ attempt g = do
 
 -- ---- up to exception entry
 
--- Where a step arrives: at its end, at exception entry with a code, or at a stop with its number and detail. The machine of `enters` is
--- that of the "moment of entry" (document 01's term): "where that step turns to exception entry, its earlier effects done".
+-- Where a step arrives: at its end, at exception entry with a code, or at a stop. The machine of `enters` is that of the "moment of entry"
+-- (document 01's term): "where that step turns to exception entry, its earlier effects done".
 pub data Turn : Type 0 where
   completes : Machine → Turn
   enters : ℕ → Machine → Turn
-  stops : ℕ → ℕ → Machine → Turn
+  stops : Stop → Machine → Turn
 
 unfoldable pub ends : Ending → Machine → Turn
 ends (Exception k) m = enters k m
-ends (Stop n d) m = stops n d m
+ends (Stops s) m = stops s m
 
 -- "then, if I is set, the pending mark is taken and, if it was set, code 0 is entered". "The poll takes the console's mark first and
 -- otherwise the timer's."
@@ -109,7 +111,7 @@ serve m (Reads p r) cost c =
 serve m (Writes p w) cost c =
     cond
     (output_full p m.console)
-    (stops OUTPUT-FULL 0 m)
+    (stops OutputFull m)
     (cond (eqb p TIMER-INTERVAL-PORT) (poll (with_timer (set_timer w m.timer) (executed cost c m))) (conclude cost (with_console (write_port p w m.console) m) (ok tt c)))
 
 unfoldable pub after_attempt : Machine → Res Executed → Turn
@@ -125,11 +127,10 @@ turn m = after_attempt m (attempt (guard m) m.core)
 
 -- ---- exception entry
 
--- A step is completed, or stops with its number and detail. "A step is completed where the Rust step returns Ok, an entered exception
--- included."
+-- A step is completed, or stops. "A step is completed where the Rust step returns Ok, an entered exception included."
 pub data Outcome : Type 0 where
   completed : Machine → Outcome
-  stopped : ℕ → ℕ → Machine → Outcome
+  stopped : Stop → Machine → Outcome
 
 -- "if cell 200 is no instruction, stop with that code"
 unfoldable pub has_handler : List ℤ → Bool
@@ -158,7 +159,7 @@ entered k m = with_cycles (suc m.cycles) (with_core (entered_core k m.core) m)
 
 -- Computer::recover_from_exception, with its cycle: "nothing saved, no cycle" where there is no handler.
 unfoldable pub recover : ℕ → Machine → Outcome
-recover k m = cond (has_handler m.core.cells) (completed (entered k m)) (stopped NO-HANDLER k m)
+recover k m = cond (has_handler m.core.cells) (completed (entered k m)) (stopped (NoHandler k) m)
 
 -- In a step, entry takes its cycle off the timer; by raise it "takes off none", and where there is no handler nothing is taken off.
 abbrev pub elapsed : ℕ → Machine → Machine
@@ -166,23 +167,23 @@ elapsed k m = with_timer (tick_entry k m.timer) m
 
 unfoldable pub elapses : ℕ → Outcome → Outcome
 elapses k (completed m) = completed (elapsed k m)
-elapses k (stopped n d m) = stopped n d m
+elapses k (stopped s m) = stopped s m
 
 unfoldable pub settle : Turn → Outcome
 settle (completes m) = completed m
 settle (enters k m) = elapses k (recover k m)
-settle (stops n d m) = stopped n d m
+settle (stops s m) = stopped s m
 
 -- ---- a step
 
 unfoldable pub reached : Outcome → Machine
 reached (completed m) = m
-reached (stopped n d m) = m
+reached (stopped s m) = m
 
 -- "7 the step would pass 2^63 - 1 cycles": looked at by the cycles that the step really adds. "Stops 6 and 7 leave the machine before that
 -- step, 6 first".
 unfoldable pub limit : Machine → Outcome → Outcome
-limit m o = cond (ltb (reached o).cycles CYCLES-END) o (stopped CYCLES-FULL 0 m)
+limit m o = cond (ltb (reached o).cycles CYCLES-END) o (stopped CyclesFull m)
 
 -- Computer::step
 unfoldable pub step : Machine → Outcome
@@ -211,7 +212,7 @@ later k t r = runs r.stop r.detail (k + r.steps) (total t r.empty) r.left
 -- A step that stops counts nothing; one that enters the handler counts what it took before.
 unfoldable pub go_on : Outcome → (Machine → Run) → Run
 go_on (completed m) k = later 1 m.core.regs.empties (k (uncounted m))
-go_on (stopped n d m) k = runs n d 0 0 (uncounted m)
+go_on (stopped s m) k = runs (stop_number s) (stop_detail s) 0 0 (uncounted m)
 
 -- "Steps counts completed steps only". "0 is given exactly when steps equals the budget, and no further step is then begun."
 unfoldable pub run : ℕ → Machine → Run

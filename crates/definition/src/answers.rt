@@ -10,7 +10,7 @@ pub enum Refusal {
     Cells,
     Queue,
     Output,
-    // The number's place in the row, from 1, or 0 for the row's length.
+    // The number's place in the row, from 1, or 0 for the row's length: one number, as C reads it.
     Row(u64),
     // Its address.
     DamagedCell(u64),
@@ -78,11 +78,11 @@ impl Refusal {
     }
 }
 
-// A test: `check(passed, refusal)?` goes on where it passed.
-pub fn check(passed: bool, refusal: Refusal) -> Result<(), Refusal>
-    ensures { result ≡ checked passed refusal }
+// A test: `check(passed, error)?` goes on where it passed.
+pub fn check<E: Copy>(passed: bool, error: E) -> Result<(), E>
+    ensures { result ≡ checked passed error }
 {
-    if passed { Ok(()) } else { Err(refusal) }
+    if passed { Ok(()) } else { Err(error) }
 }
 
 impl From<Result<(), Refusal>> for Done {
@@ -121,23 +121,22 @@ impl From<Refusal> for Ran {
     }
 }
 
+// Counted's numbers, under C's other name.
 impl From<Result<u64, Refusal>> for Drained {
     ghost from_gives = { λ r a. a ≡ drained_of r };
 
     fn from(r: Result<u64, Refusal>) -> Drained
         ensures { result ≡ drained_of r }
     {
-        match r {
-            Ok(count) => Drained {
-                refusal: 0,
-                place: 0,
-                count,
-            },
-            Err(e) => Drained {
-                refusal: e.number(),
-                place: e.place(),
-                count: 0,
-            },
+        let Counted {
+            refusal,
+            place,
+            count,
+        } = r.into();
+        Drained {
+            refusal,
+            place,
+            count,
         }
     }
 }

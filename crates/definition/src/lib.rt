@@ -4,6 +4,7 @@
 pub mod answers;
 pub mod errors;
 pub mod places;
+pub mod stops;
 
 // Three numbers (document 01, "Cells and row"): empty is 0,0,0, word w is 1,w,0, an instruction has a tag of 2 or more.
 #[derive(Clone, Copy)]
@@ -33,7 +34,8 @@ pub struct Marks {
     pub pending: bool,
 }
 
-// The timer: its interval, 0 where it is off, what remains of it, and its mark. Both numbers are below 2^63.
+// The timer: its interval, what remains of it, and its mark. Off is an interval of 0 and no Option, since the row and port 120 hold it so.
+// That both numbers are below 2^63 is asked by contracts (`TimerIn`) and no ghost field: the definition's machine has timers of any numbers.
 #[derive(Clone, Copy)]
 pub struct Timer {
     pub interval: u64,
@@ -41,7 +43,7 @@ pub struct Timer {
     pub mark: bool,
 }
 
-// The word that a cell gives, if it does. Empty reads as word 0, and is told apart.
+// The word that a cell gives, if it does. Empty reads as word 0, and is told apart: no Option, since an empty cell's word is counted.
 #[derive(Clone, Copy)]
 pub enum Word {
     Is(i64),
@@ -56,7 +58,7 @@ pub enum Missing {
     NoAddress,
 }
 
-// A result wrapped at 64 bits, and whether it had to be.
+// A result wrapped at 64 bits, and whether it had to be. No Option: it is put all the same, and V is set beside it.
 #[derive(Clone, Copy)]
 pub struct Wrapped {
     pub value: i64,
@@ -79,15 +81,29 @@ pub enum Error {
     Reset,
 }
 
-// What ends a step: exception entry with a code, or a stop with its number and detail.
+// What ends a step: exception entry with a code, or a stop. The code is a number: cell 102 and C hold it so, a raise is given one, and only 0
+// is told apart.
 #[derive(Clone, Copy)]
 pub enum Ending {
     Exception(u32),
-    Stop(u32, u32),
+    Stops(Stop),
+}
+
+// Why a step stops, 1 to 7 of "Stops".
+#[derive(Clone, Copy, Debug, PartialEq, Eq)]
+pub enum Stop {
+    Reset,
+    // The exception's code.
+    NoHandler(u32),
+    CellError,
+    Extract,
+    InvalidRegister(Reg),
+    OutputFull,
+    CyclesFull,
 }
 
 // Reg of registers.rs.
-#[derive(Clone, Copy)]
+#[derive(Clone, Copy, Debug, PartialEq, Eq)]
 pub enum Reg {
     A,
     B,
@@ -96,7 +112,7 @@ pub enum Reg {
     SR,
 }
 
-// An operand: the types of arguments.rs in one.
+// An operand: the types of arguments.rs in one. Absent is one of the tag's six modes, so no Option.
 #[derive(Clone, Copy)]
 pub enum Operand {
     Absent,
@@ -145,7 +161,8 @@ pub enum Op {
     Xor,
 }
 
-// An instruction as it is executed: its operands, the registers that its tag names, and its cost.
+// An instruction as it is executed: its operands, the registers that its tag names, and its cost. r1 and r2 are a where it names none: an
+// operation that takes one has a register there in each legal form.
 #[derive(Clone, Copy)]
 pub struct Instruction {
     pub op: Op,
@@ -156,7 +173,8 @@ pub struct Instruction {
     pub cycles: u64,
 }
 
-// What an instruction asks of the console: nothing, a port read into a register, or a word written to a port.
+// What an instruction asks of the console: nothing, a port read into a register, or a word written to a port. No Option of the last two: a
+// step serves it by three cases.
 #[derive(Clone, Copy)]
 pub enum Request {
     Nothing,
@@ -171,7 +189,7 @@ pub struct Executed {
     pub request: Request,
 }
 
-// The answers of the calls. A refusal of 0 says that the call was done; the other fields are 0 where it was refused.
+// The answers of the calls, as C reads them: a refusal of 0 says that the call was done, and the other fields are 0 where it was refused.
 #[repr(C)]
 #[derive(Clone, Copy)]
 pub struct Done {
@@ -198,7 +216,7 @@ pub struct Drained {
     pub count: u64,
 }
 
-// Of the calls that write as much as there is: how much they wrote.
+// Of the calls that write as much as there is: how much they wrote. Drained again, since C has a name of its own for each.
 #[repr(C)]
 #[derive(Clone, Copy)]
 pub struct Counted {

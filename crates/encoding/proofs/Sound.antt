@@ -1,15 +1,17 @@
 -- A tag taken apart by the code's quotients, soundness by the code's tests, and the cells one after another.
-use Rattle.std.proofs.Common.{◌||◌, Bool, T, Fits, w32, ltb-true, ltb-false, true≢false, ◌≡◌, refl, sym, ◌∙◌, ap, true, false, List, [], ◌∷◌, ℕ, zero, suc, ◌+◌, ◌*◌, ◌-◌, ◌/◌, ◌%◌, ◌<◌, ◌≤◌, arith, ℤ, pos, negsuc, nat_abs, ◌<ℤ◌, ◌≤ℤ◌, eqb, length, get_or, drop, drop-cons, le-ltb, lit<, w64, SFits, of_z}
+use Rattle.std.proofs.Common.{◌||◌, Bool, T, Fits, w32, ltb-true, ltb-false, true≢false, ◌≡◌, refl, sym, ◌∙◌, ap, true, false, List, [], ◌∷◌, ℕ, zero, suc, ◌+◌, ◌*◌, ◌-◌, ◌/◌, ◌%◌, ◌<◌, ◌≤◌, arith, ℤ, pos, negsuc, nat_abs, ◌<ℤ◌, ◌≤ℤ◌, eqb, length, length-drop, get_or, drop, drop-cons, le-ltb, eq-eqb, ne_eqb, Option, Some, None, lit<, w64, SFits, of_z}
 use Rattle.std.proofs.lemmas.Int.{ints}
 use Rattle.std.proofs.lemmas.List.{get_or_past}
 use lib.Signed.{non_neg}
 use Rattle.std.specs.Int.Signed.{lt_z}
+use Rattle.std.specs.Option.{MatchOption}
 use Rattle.definition.specs.declared.Op.TheVariants as O
 use Rattle.definition.specs.Word.{eq_z}
-use Rattle.definition.specs.Memory.{cell_at}
+use Rattle.definition.specs.Memory.{cell_count, cell_at}
 use Rattle.definition.specs.Encoding.{ops, op_at, legal, sound_instruction, sound_at, sound}
 use Rattle.definition.specs.Calls.{lowest_damaged}
 use Rattle.word.proofs.Laws.{eq-bits}
+use Rattle.encoding.specs.Damaged.{damaged}
 
 -- ---- a tag less 2: k is the table's place
 
@@ -103,6 +105,25 @@ damaged-none n [] h = refl
 damaged-none n (t ∷ []) h = refl
 damaged-none n (t ∷ f ∷ []) h = refl
 damaged-none n (t ∷ f ∷ s ∷ l) h = absurd (omega arith)
+
+-- past sound cells
+after-sound : (n : ℕ) (l : List ℤ) → 3 * n ≤ length l → ((k : ℕ) → 0 ≤ k → k < n → sound (cell_at l k) ≡ true)
+    → lowest_damaged n (drop (3 * n) l) ≡ lowest_damaged 0 l
+after-sound zero l h f = refl
+after-sound (suc n) l h f = damaged-later n l (omega arith) (f n (omega arith) (omega arith)) ∙ after-sound n l (omega arith) (λ k a b. f k a (omega arith))
+
+-- what `find` answers is the definition's
+pub damaged-found : (l : List ℤ) (r : Option ℕ)
+    → MatchOption r ((k : ℕ) → 0 ≤ k → k < cell_count l → sound (cell_at l k) ≡ true) (λ i. (0 ≤ i) × (i < cell_count l) × (sound (cell_at l i) ≡ false) × ((k : ℕ) → 0 ≤ k → k < i → sound (cell_at l k) ≡ true))
+    → r ≡ damaged l
+damaged-found l None f =
+    let k : length (drop (3 * cell_count l) l) < 3 = simp length-drop (omega arith) in
+    let d : cell_count l ≡ lowest_damaged 0 l = damaged-none (cell_count l) (drop (3 * cell_count l) l) k ∙ after-sound (cell_count l) l (omega arith) f in
+    rw (eq-eqb (lowest_damaged 0 l) (cell_count l) (sym d)) refl
+damaged-found l (Some i) h =
+    let b : i < cell_count l = h.1 in
+    let d : i ≡ lowest_damaged 0 l = damaged-here i l (omega arith) h.2 ∙ after-sound i l (omega arith) h.3 in
+    rw (← d, ne_eqb i (cell_count l) (λ e. omega arith)) refl
 
 -- ---- what the crates above ask of a tag
 

@@ -1,5 +1,6 @@
 // Which forms are instructions, and what each costs: one number an operation and one a mode. The operations' stand in a static: a constant
-// array would be built anew where it is named.
+// array would be built anew where it is named. Operation and mode are numbers here, digits of a tag: a cell's form is tested before there is an
+// Op or an Operand of it.
 ghost use Rattle.std.specs.Prelude.{◌≡◌, true, ◌+◌, ◌<◌, get_or};
 ghost use Rattle.definition.specs.Arguments.{mode_cost};
 ghost use Rattle.definition.specs.Encoding.{legal, cost};

@@ -5,16 +5,16 @@ pub mod forms;
 
 ghost use Rattle.std.specs.Prelude.{◌≡◌, true, ◌&&◌, ◌+◌, ◌*◌, ◌/◌, ◌%◌, ◌<◌, pos, length};
 ghost use Rattle.std.specs.Int.Signed.{lt_z};
-ghost use Rattle.definition.specs.Memory.{cell_at};
-ghost use Rattle.definition.specs.Encoding.{legal, op_at, op_number, mode₁, mode₂, decode, register_fits, number_fits, sound_instruction, sound_at, sound};
-ghost use Rattle.definition.specs.Calls.{lowest_damaged};
+ghost use Rattle.definition.specs.Encoding.{legal, op_at, op_number, mode₁, mode₂, decode, register_fits, number_fits, sound_instruction, sound};
 ghost use Rattle.definition.specs.Registers.{reg_at};
 ghost use Rattle.definition.specs.Arguments.{operand};
+ghost use Rattle.encoding.specs.Damaged.{damaged};
 
 use definition::{Cell, Instruction, Op, Operand, Reg};
 
 // The place of a form among the 1,188, op * 36 + m1 * 6 + m2, of a tag less 2.
 // Each step takes a tag apart: here and below a product and a shift, exact for numbers this small, replace a division, which takes about twice the instructions.
+// Four functions and no const parameter: factor, shift and bound are proved for each divisor.
 fn place(t: u32) -> u32
     requires { t < 29700 }
     ensures { result ≡ t / 25 }
@@ -46,7 +46,7 @@ fn fifth(r: u32) -> u32
     (r * 52) >> 8
 }
 
-// "op is 0 to 32 in the order of `Instruction`"
+// "op is 0 to 32 in the order of `Instruction`". No TryFrom here and in the next two: a digit of a tag is one's number, so nothing fails.
 #[tactic(auto, unfolding(definition::specs::Encoding::op_at))]
 fn op_at(n: u32) -> Op
     ensures { result ≡ op_at n }
@@ -118,26 +118,47 @@ fn operand(m: u32, r: u32, w: i64) -> Operand
     }
 }
 
+// The digits of an instruction's tag: both registers are r, r1 * 5 + r2.
+#[derive(Clone, Copy)]
+struct Digits {
+    op: u32,
+    m1: u32,
+    m2: u32,
+    r: u32,
+}
+
+// Those of t, a tag less 2.
+fn taken_apart(t: u32) -> Digits
+    requires { t < 29700 }
+    ensures { result ≡ record { op = op_number t; m1 = mode₁ t; m2 = mode₂ t; r = t % 25 } }
+{
+    let k = place(t);
+    let op = op_of(k);
+    let m = k - 36 * op;
+    let m1 = sixth(m);
+    Digits {
+        op,
+        m1,
+        m2: m - 6 * m1,
+        r: t - 25 * k,
+    }
+}
+
 // What t, an instruction's tag less 2, says of the instruction.
 pub fn decode(t: u32, first: i64, second: i64) -> Instruction
     requires { (t < 29700) × (legal (op_number t) (mode₁ t) (mode₂ t) ≡ true) }
     ensures { result ≡ decode t first second }
 {
-    let k = place(t);
-    let r = t - 25 * k;
-    let op = op_of(k);
-    let m = k - 36 * op;
-    let m1 = sixth(m);
-    let m2 = m - 6 * m1;
-    let r1 = fifth(r);
-    let r2 = r - 5 * r1;
+    let tag = taken_apart(t);
+    let r1 = fifth(tag.r);
+    let r2 = tag.r - 5 * r1;
     Instruction {
-        op: op_at(op),
-        x: operand(m1, r1, first),
-        y: operand(m2, r2, second),
+        op: op_at(tag.op),
+        x: operand(tag.m1, r1, first),
+        y: operand(tag.m2, r2, second),
         r1: reg_at(r1),
         r2: reg_at(r2),
-        cycles: forms::cost_of(op, m1, m2),
+        cycles: forms::cost_of(tag.op, tag.m1, tag.m2),
     }
 }
 
@@ -170,45 +191,30 @@ fn operands_fit(m1: u32, m2: u32, r: u32, first: i64, second: i64) -> bool
         && number_fits(m2, second)
 }
 
+#[tactic(auto, using(word::proofs::Laws::back), unfolding(definition::specs::Encoding::sound_instruction))]
 pub fn sound_instruction(t: u32, first: i64, second: i64) -> bool
     requires { t < 29700 }
     ensures { result ≡ sound_instruction t first second }
 {
-    let k = place(t);
-    let op = op_of(k);
-    let m = k - 36 * op;
-    let m1 = sixth(m);
-    let m2 = m - 6 * m1;
-    forms::is_legal(op, m1, m2) && operands_fit(m1, m2, t - 25 * k, first, second)
+    let tag = taken_apart(t);
+    forms::is_legal(tag.op, tag.m1, tag.m2) && operands_fit(tag.m1, tag.m2, tag.r, first, second)
 }
 
 // Empty, a word or an instruction: "Anything else is damaged."
-fn sound_at(tag: i64, first: i64, second: i64) -> bool
-    ensures { result ≡ sound_at tag first second }
+pub fn is_sound(v: Cell) -> bool
+    ensures { result ≡ sound v }
 {
-    match tag {
-        0 => first == 0 && second == 0,
-        1 => second == 0,
-        2..=29701 => sound_instruction((tag - 2) as u32, first, second),
+    match v.tag {
+        0 => v.first == 0 && v.second == 0,
+        1 => v.second == 0,
+        2..=29701 => sound_instruction((v.tag - 2) as u32, v.first, v.second),
         _ => false,
     }
 }
 
-pub fn is_sound(v: Cell) -> bool
-    ensures { result ≡ sound v }
+// The lowest address of a damaged cell.
+pub fn lowest_damaged(cells: &[i64]) -> Option<usize>
+    ensures { result ≡ damaged cells.now }
 {
-    sound_at(v.tag, v.first, v.second)
-}
-
-// The lowest address of a damaged cell, or else the address past the last cell.
-pub fn lowest_damaged(cells: &[i64]) -> usize
-    ensures { result ≡ lowest_damaged 0 cells.now }
-{
-    let count = cells.len() / 3;
-    for n in 0..count {
-        if !is_sound(memory::get_cell(cells, n)) {
-            return n;
-        }
-    }
-    count
+    (0..cells.len() / 3).find(|n| !is_sound(memory::get_cell(cells, *n)))
 }

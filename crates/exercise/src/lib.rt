@@ -39,7 +39,7 @@ pub fn form_of(d: u32) -> u32
     FORMS[(d % 124) as usize]
 }
 
-// A register, "0 where unused".
+// A register, "0 where unused". Mode and register are digits of a tag, drawn, so numbers.
 #[tactic(auto, unfolding(crate::specs::Exercise::register))]
 pub fn register(m: u32, r: u32) -> u32
     ensures { result ≡ register m r }
@@ -62,7 +62,7 @@ pub fn number(m: u32, w: i64) -> i64
     w * NUMBERS[m as usize]
 }
 
-// The tag of the entry k with two registers.
+// The tag of the entry k with two registers: the assembler's sum, whose op and modes come apart there.
 pub fn tag_of(k: u32, r1: u32, r2: u32) -> i64
     ensures { result ≡ pos (tag_of (k / 36) (k / 6 % 6) (k % 6) r1 r2) }
 {
@@ -87,7 +87,7 @@ pub fn cell_of(d1: u32, d2: u32, d3: u32) -> Cell
     }
 }
 
-// The draws, one after another.
+// The draws, one after another. No Iterator: none is the last, and each of a cell's three would be taken out of an Option.
 #[derive(Drop)]
 struct Draws {
     state: u64,

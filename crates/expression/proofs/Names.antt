@@ -1,27 +1,30 @@
 -- How names compare, and which line sets one. Assumes nothing.
-use mathlib.Core.Path.{◌≡◌, refl, ap}
+use mathlib.Core.Path.{◌≡◌, refl, ap, ◌∙◌}
 use mathlib.Core.Bool.{Bool, true, false, cond, ◌&&◌}
 use mathlib.Core.List.{List, [], ◌∷◌}
-use Prim.Native.Nat.{ℕ, zero, suc, ◌+◌, ◌*◌, ◌%◌, ◌≤◌, ◌<◌}
+use Prim.Native.Nat.{ℕ, zero, suc, ◌+◌, ◌-◌, ◌*◌, ◌%◌, ◌≤◌, ◌<◌}
 use native.Mathlib.Omega.{arith}
 use native.Mathlib.Numerals.{add-one}
 use lib.ListN.{length, drop, get_or}
 use lib.Seq.{drop-cons}
 use lib.Pointwise.{pointwise}
 use mathlib.Core.Option.{some, none}
-use lib.Dec.{eqb}
-use borrow.Author.Tests.{ne_eqb}
-use Rattle.expression.proofs.Spans.{by_bool, past-length, tail-length, first-is, front-some, front-zero}
+use lib.Dec.{leb, eqb}
+use borrow.Author.Tests.{leb-true, ne_eqb}
+use Rattle.decimal.specs.Decimal.{cap_step}
+use Rattle.expression.proofs.Spans.{by_bool, every, every-at, front-every, past-length, tail-length, first-is, front-some, front-zero}
 use Rattle.expression.proofs.Chain.{letter-ends}
-use Rattle.expression.specs.Reader.{gives, refused, head, tail, front, past, skip, is_letter, same}
+use Rattle.expression.proofs.Sound.{both}
+use Rattle.expression.specs.Reader.{gives, refused, head, tail, front, past, skip, is_digit, is_letter, same}
+use Rattle.expression.specs.Code.{cap_decimal}
 use Rattle.expression.specs.Table.{is_labelled, label_at, sets, is_inner, next_line, setting_in, setting, hash_from}
 
-pub same-eq : (a b : List ℕ) → pointwise eqb a b ≡ same a b
+pub same_eq : (a b : List ℕ) → pointwise eqb a b ≡ same a b
 unfolding same
-same-eq [] [] = refl
-same-eq [] (y ∷ b) = refl
-same-eq (x ∷ a) [] = refl
-same-eq (x ∷ a) (y ∷ b) = ap (λ (r : Bool). eqb x y && r) (same-eq a b)
+same_eq [] [] = refl
+same_eq [] (y ∷ b) = refl
+same_eq (x ∷ a) [] = refl
+same_eq (x ∷ a) (y ∷ b) = ap (λ (r : Bool). eqb x y && r) (same_eq a b)
 
 pub drop_past : (l : List ℕ) (k : ℕ) → length l ≤ k → drop k l ≡ []
 drop_past [] zero h = refl
@@ -127,3 +130,20 @@ setting-first (b ∷ t) k n l e = rw (setting-step b t k n, e)
 pub setting-rest : (t : List ℕ) (k : ℕ) (n : List ℕ) → 1 ≤ length t → sets t n ≡ false → setting (next_line t) (k + 1) n ≡ setting t k n
 setting-rest [] k n l e = absurd (omega arith)
 setting-rest (b ∷ t) k n l e = rw (setting-step b t k n, e, add-one)
+
+-- ---- magnitudes
+
+pub decimal-more : (s : List ℕ) (i v : ℕ) → i < length s → cap_decimal (cap_step v (get_or s i 0 - 48)) (drop (i + 1) s) ≡ cap_decimal v (drop i s)
+unfolding cap_decimal
+decimal-more s i v l = rw (drop-cons s i 0 l, add-one)
+
+pub decimal-stop : (s : List ℕ) (i v : ℕ) → length s ≤ i → v ≡ cap_decimal v (drop i s)
+unfolding cap_decimal
+decimal-stop s i v l = rw (drop_past s i l)
+
+pub digit-within : (t n : List ℕ) (i : ℕ) → n ≡ front is_digit t → i < length n → (48 ≤ get_or n i 0) × (get_or n i 0 ≤ 57)
+unfolding is_digit
+digit-within t n i e l =
+    let h = every-at is_digit n i (ap (every is_digit) e ∙ front-every is_digit t) l in
+    let d = both (leb 48 (get_or n i 0)) (leb (get_or n i 0) 57) h in
+    (leb-true 48 (get_or n i 0) d.0, leb-true (get_or n i 0) 57 d.1)

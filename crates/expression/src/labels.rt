@@ -4,7 +4,7 @@ ghost use Rattle.std.specs.Prelude.{◌≡◌, ◌==◌, ◌+◌, ◌^◌, ◌<�
 ghost use Rattle.expression.specs.Table.{sets, next_line, setting, hash_from};
 ghost use Rattle.expression.specs.Code.{place_found};
 
-use super::text::{is_same, next_line, split_label};
+use super::text::{next_line, split_label};
 
 // A number of a name.
 pub fn hash(name: &[u8]) -> usize
@@ -22,12 +22,12 @@ fn sets(line: &[u8], name: &[u8]) -> bool
     ensures { result ≡ sets line.now name.now }
 {
     match split_label(line) {
-        Some((set, _)) => is_same(set, name),
+        Some((set, _)) => set == name,
         None => false,
     }
 }
 
-// The lines of a text, numbered from `number` on.
+// The lines of a text, numbered from `number` on. No Iterator: the assembler stops before the end, and keeps the lines that are left.
 #[derive(Clone, Copy)]
 pub struct Lines<'a> {
     pub text: &'a [u8],
@@ -82,15 +82,12 @@ impl<'a> Entry<'a> {
     pub fn line_of(&self, name: &[u8]) -> Option<usize>
         ensures { place_found result ≡ line_of self.now name.now }
     {
-        if is_same(self.name, name) {
-            Some(self.line)
-        } else {
-            None
-        }
+        (self.name == name).then_some(self.line)
     }
 }
 
 // The first labels of a text, and the lines whose labels are not held. A number of a name guesses its entry, most often the right one.
+// Arrays and no map: nothing is allocated. No ArrayVec: it would bring a crate to each crate above, for one push and one slice.
 #[derive(Drop)]
 pub struct Labels<'a> {
     pub entries: [Entry<'a>; 256],
@@ -166,15 +163,11 @@ impl<'a> Labels<'a> {
     fn among(&self, name: &[u8]) -> Option<usize>
         ensures { place_found result ≡ among (held self.now) name.now }
     {
-        for entry in self.held() {
-            if let Some(line) = entry.line_of(name) {
-                return Some(line);
-            }
-        }
-        None
+        self.held().iter().find_map(|entry| entry.line_of(name))
     }
 
-    // The line that sets a label, among those held: first the guess.
+    // The line that sets a label, among those held: first the guess. A match, here and in find, and no or_else: tried, and nothing is inferred of a
+    // closure that captures the labels, so it would state again what among promises.
     pub fn find_kept(&self, name: &[u8]) -> Option<usize>
         ensures { place_found result ≡ kept self.now name.now }
     {

@@ -1,4 +1,5 @@
-// Constant expressions, read and worked out at once: links, operand and atom call each other.
+// Constant expressions, read and worked out at once: links, operand and atom call each other. Text, labels and depth are passed on and not held,
+// as depth changes on the way, and the text is what is left.
 #![tactic(auto)]
 
 pub mod labels;
@@ -33,7 +34,7 @@ pub enum Operator {
     Minus,
 }
 
-// What the operators of a links join: products, or atoms.
+// What the operators of a links join: products, or atoms. A value and no closure: links and operand call each other, one level down each time.
 #[derive(Clone, Copy)]
 pub enum Level {
     Sum,

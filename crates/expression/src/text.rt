@@ -2,7 +2,7 @@
 #![tactic(auto, unfolding(crate::specs::Reader::is_space, crate::specs::Reader::is_digit, crate::specs::Reader::is_letter, crate::specs::Table::is_inner))]
 
 ghost use Rattle.std.specs.Prelude.{◌≡◌, Bool, ℕ, option_copied};
-ghost use Rattle.expression.specs.Reader.{front, past, same, skip, is_space, is_digit, is_letter};
+ghost use Rattle.expression.specs.Reader.{front, past, skip, is_space, is_digit, is_letter};
 ghost use Rattle.expression.specs.Table.{is_inner, next_line, label_at};
 ghost use Rattle.expression.specs.Code.{Answers, cap_decimal, name_told, after};
 
@@ -78,13 +78,10 @@ pub fn next_line(s: &[u8]) -> &[u8]
 pub fn digits(s: &[u8]) -> (u64, &[u8])
     ensures { (result.0 ≡ cap_decimal 0 (front is_digit s.now)) × (result.1.now ≡ past is_digit s.now) }
 {
+    let (front, rest) = span(s, is_digit);
     let mut size = 0;
-    let mut rest = s;
-    while let [digit, tail @ ..] = rest
-        && is_digit(*digit)
-    {
+    for digit in front {
         size = decimal::grown(size, *digit - b'0');
-        rest = tail;
     }
     (size, rest)
 }
@@ -108,11 +105,4 @@ pub fn split_label(s: &[u8]) -> Option<(&[u8], &[u8])>
         [b':', rest @ ..] if !name.is_empty() => Some((name, rest)),
         _ => None,
     }
-}
-
-// Whether two names are one.
-pub fn is_same(a: &[u8], b: &[u8]) -> bool
-    ensures { result ≡ same a.now b.now }
-{
-    a == b
 }

@@ -11,21 +11,21 @@ by_bool true t f = t refl
 by_bool false t f = f refl
 
 -- no mark
-pub cause-none : (s : List ℕ) → ((i : ℕ) → i ≤ length s → LacksTextAt number_mark s i) → cause s ≡ s
+pub cause_none : (s : List ℕ) → ((i : ℕ) → i ≤ length s → LacksTextAt number_mark s i) → cause s ≡ s
 unfolding cause
-cause-none [] none = refl
-cause-none (b ∷ t) none =
+cause_none [] none = refl
+cause_none (b ∷ t) none =
     by_bool (starts_with eqb (b ∷ t) number_mark)
     (λ e. absurd (none 0 (omega arith) _ ((starts_is Decides-eqb (b ∷ t) number_mark _ refl).0 e)))
-    (λ e. rw e (ap (λ u. b ∷ u) (cause-none t (λ i l rest h. none (suc i) (omega arith) rest h))))
+    (λ e. rw e (ap (λ u. b ∷ u) (cause_none t (λ i l rest h. none (suc i) (omega arith) rest h))))
 
 -- the first mark stands at i
-pub cause-first : (s rest : List ℕ) (i : ℕ) → ((k : ℕ) → k < i → LacksTextAt number_mark s k) → drop i s ≡ number_mark ++ rest → cause s ≡ take i s
+pub cause_first : (s rest : List ℕ) (i : ℕ) → ((k : ℕ) → k < i → LacksTextAt number_mark s k) → drop i s ≡ number_mark ++ rest → cause s ≡ take i s
 unfolding cause
-cause-first [] rest zero none has = refl
-cause-first [] rest (suc i) none has = refl
-cause-first (b ∷ t) rest zero none has = rw ((starts_is Decides-eqb (b ∷ t) number_mark _ refl).1 rest has)
-cause-first (b ∷ t) rest (suc i) none has =
+cause_first [] rest zero none has = refl
+cause_first [] rest (suc i) none has = refl
+cause_first (b ∷ t) rest zero none has = rw ((starts_is Decides-eqb (b ∷ t) number_mark _ refl).1 rest has)
+cause_first (b ∷ t) rest (suc i) none has =
     by_bool (starts_with eqb (b ∷ t) number_mark)
     (λ e. absurd (none 0 (omega arith) _ ((starts_is Decides-eqb (b ∷ t) number_mark _ refl).0 e)))
-    (λ e. rw e (ap (λ u. b ∷ u) (cause-first t rest i (λ k l r h. none (suc k) (omega arith) r h) has)))
+    (λ e. rw e (ap (λ u. b ∷ u) (cause_first t rest i (λ k l r h. none (suc k) (omega arith) r h) has)))

@@ -11,6 +11,7 @@ use std::io::Error;
 const STDERR: i32 = 2;
 
 // Why the system refused, without the error's number.
+#[tactic(auto, using(crate::proofs::First::cause_none, crate::proofs::First::cause_first))]
 pub fn cause(said: &str) -> &str
     ensures { result.now ≡ cause said.now }
 {

@@ -33,7 +33,7 @@ use Rattle.assembly.specs.Theorems.{all_sound}
 use Rattle.assembly.proofs.Cells.{cells-sound, cells_fit}
 use Rattle.lines.specs.declared.Reader.{Reader}
 use Rattle.lines.specs.declared.Start.{Start}
-use Rattle.lines.specs.Reader.{opened, broken, within, start_line, empty_cells}
+use Rattle.lines.specs.Reader.{has_digits, opened, broken, within, start_line, empty_cells}
 use Rattle.std.specs.Prelude.{Result, Ok, Err}
 use Rattle.source.specs.declared.Refused.{Refused}
 use Rattle.definition.specs.declared.answers.Refusal.TheVariants.{ImageLine}
@@ -84,11 +84,11 @@ module _ (r : Reader) where
   unfolding start_end
   start-broken b = rw b
 
-  start-ended : r.broken ≡ false → (r.field.digits && eqb r.count 3) ≡ true → start_line r ≡ start_end r
+  start-ended : r.broken ≡ false → (has_digits r.field && eqb r.count 3) ≡ true → start_line r ≡ start_end r
   unfolding start_end
   start-ended b w = rw (b, w)
 
-  start-short : r.broken ≡ false → (r.field.digits && eqb r.count 3) ≡ false → broken r ≡ start_end r
+  start-short : r.broken ≡ false → (has_digits r.field && eqb r.count 3) ≡ false → broken r ≡ start_end r
   unfolding start_end
   start-short b w = rw (b, w)
 
@@ -97,7 +97,7 @@ start_in : (r : Reader) → (start_end r).broken ≡ false → StartIn (start_en
 start_in r b =
     by_bool r.broken
     (λ e. clash e (ap (λ (x : Reader). x.broken) (start-broken r e) ∙ b))
-    (λ e. by_bool (r.field.digits && eqb r.count 3)
+    (λ e. by_bool (has_digits r.field && eqb r.count 3)
     (λ f. let q = start-ended r e f in
     subst (λ (x : Reader). StartIn x.start) q (line-in r e (ap (λ (x : Reader). x.broken) q ∙ b)))
     (λ f. clash refl (ap (λ (x : Reader). x.broken) (start-short r e f) ∙ b)))

@@ -17,7 +17,7 @@ pub struct Output {
     pub err: Text<33792>,
 }
 
-// "start,pc,sp,sr" in a row of zeros.
+// "start,pc,sp,sr" in a row of zeros: a slice, as report's.
 pub fn put_start(row: &mut [i64], s: Start)
     requires { length row.old ≡ ROW }
     ensures { row.new ≡ start_row row.old s }

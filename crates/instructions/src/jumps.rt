@@ -1,30 +1,21 @@
 // The jumps, and reset, which leaves pc on itself.
 
-ghost use Rattle.std.specs.Prelude.{◌≡◌, ◌<◌, List, ℤ};
-ghost use Rattle.definition.specs.Word.{bit};
+ghost use Rattle.std.specs.Prelude.{◌≡◌, List, ℤ};
 ghost use Rattle.definition.specs.Exec.{branch, return, core};
 ghost use Rattle.definition.specs.Instructions.{jump, reset};
-ghost use Rattle.registers.specs.Meaning.{res_of, core_of};
+ghost use Rattle.registers.specs.Meaning.{res_of};
+ghost use Rattle.arguments.specs.Seen.{cells_of};
 
+use arguments::Seen;
 use definition::{Error, Operand, Registers};
-use registers::Plan;
-
-// StatusRegister::contains, of a flag by its bit: Z is 1, N is 2.
-pub fn flag(s: &Registers, k: u64) -> bool
-    requires { k < 64 }
-    ensures { result ≡ bit k s.now.sr }
-{
-    word::test_bit(s.sr, k)
-}
 
 // A jump, where its test holds: "A conditional jump not taken never reads its operand."
 #[tactic(auto, unfolding(registers::specs::Meaning::res_of, definition::specs::Exec::branch, definition::specs::Exec::and_then))]
-pub fn jump_if(cells: &[i64], p: &mut Plan, test: bool, x: Operand) -> Result<(), Error>
-    ensures value { res_of result (core_of cells.now p.new) ≡ branch test (jump x) (return tt) (core_of cells.now p.old) }
-    ensures write { p.new.write ≡ p.old.write }
+pub fn jump_if(seen: &Seen<'_>, s: &mut Registers, test: bool, x: Operand) -> Result<(), Error>
+    ensures { res_of result (core (cells_of seen.now) s.new) ≡ branch test (jump x) (return tt) (core (cells_of seen.now) s.old) }
 {
     if test {
-        stores::jump(cells, p, x)?;
+        stores::jump(seen, s, x)?;
     }
     Ok(())
 }

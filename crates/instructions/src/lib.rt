@@ -7,10 +7,12 @@ ghost use Rattle.definition.specs.Memory.{cell_count};
 ghost use Rattle.definition.specs.Exec.{core, check_privileged};
 ghost use Rattle.definition.specs.Instructions.{in_op, out_op, execute};
 ghost use Rattle.registers.specs.Meaning.{res_of, core_of};
+ghost use Rattle.arguments.specs.Seen.{cells_of};
 
+use arguments::Seen;
 use definition::{Error, Instruction, Op, Operand, Reg, Registers, Request};
 use operations::words;
-use registers::Plan;
+use registers::{Flag, Plan};
 
 pub mod jumps;
 pub mod moves;
@@ -39,13 +41,17 @@ pub fn in_request(s: &mut Registers, x: Operand, r: Reg) -> Result<Request, Erro
 
 // out: the word, then the port.
 #[tactic(auto, unfolding(registers::specs::Meaning::res_of, definition::specs::Instructions::out_op, definition::specs::Exec::and_then))]
-pub fn out_request(cells: &[i64], p: &mut Plan, x: Operand, y: Operand) -> Result<Request, Error>
-    ensures value { res_of result (core_of cells.now p.new) ≡ out_op x y (core_of cells.now p.old) }
-    ensures write { p.new.write ≡ p.old.write }
+pub fn out_request(
+    seen: &Seen<'_>,
+    s: &mut Registers,
+    x: Operand,
+    y: Operand,
+) -> Result<Request, Error>
+    ensures { res_of result (core (cells_of seen.now) s.new) ≡ out_op x y (core (cells_of seen.now) s.old) }
 {
-    check_privileged(&p.s)?;
-    let w = arguments::word_of(cells, p, x)?;
-    let port = arguments::place_of(&mut p.s, y)?;
+    check_privileged(s)?;
+    let w = arguments::word_of(seen, s, x)?;
+    let port = arguments::place_of(s, y)?;
     Ok(Request::Writes(port, w))
 }
 
@@ -56,42 +62,43 @@ pub fn execute(cells: &[i64], guard: u32, p: &mut Plan, i: Instruction) -> Resul
     requires none { p.old.write ≡ None }
     ensures { res_of result (core_of cells.now p.new) ≡ execute guard i.op i.x i.y i.r1 i.r2 (core_of cells.now p.old) }
 {
-    let z = jumps::flag(&p.s, 1);
-    let n = jumps::flag(&p.s, 2);
+    let seen = Seen(cells, p.write);
+    let z = registers::get_flag(&p.s, Flag::Zero);
+    let n = registers::get_flag(&p.s, Flag::Negative);
     match i.op {
-        Op::Add => words::add(cells, p, i.x, i.r2)?,
-        Op::And => words::and(cells, p, i.x, i.r2)?,
+        Op::Add => words::add(&seen, &mut p.s, i.x, i.r2)?,
+        Op::And => words::and(&seen, &mut p.s, i.x, i.r2)?,
         Op::Call => stores::call(cells, guard, p, i.x)?,
-        Op::Cmp => words::cmp(cells, p, i.x, i.r2)?,
-        Op::Div => words::div(cells, p, i.x, i.r2)?,
+        Op::Cmp => words::cmp(&seen, &mut p.s, i.x, i.r2)?,
+        Op::Div => words::div(&seen, &mut p.s, i.x, i.r2)?,
         Op::Fas => stores::fas(cells, guard, p, i.x, i.r2)?,
         Op::In => return in_request(&mut p.s, i.x, i.r2),
-        Op::Jmp => stores::jump(cells, p, i.x)?,
-        Op::Jeq => jumps::jump_if(cells, p, z, i.x)?,
-        Op::Jne => jumps::jump_if(cells, p, !z, i.x)?,
-        Op::Jle => jumps::jump_if(cells, p, z | n, i.x)?,
-        Op::Jlt => jumps::jump_if(cells, p, !z & n, i.x)?,
-        Op::Jge => jumps::jump_if(cells, p, z | !n, i.x)?,
-        Op::Jgt => jumps::jump_if(cells, p, !z & !n, i.x)?,
-        Op::Ld => moves::ld(cells, p, i.x, i.r2)?,
-        Op::Mul => words::mul(cells, p, i.x, i.r2)?,
+        Op::Jmp => stores::jump(&seen, &mut p.s, i.x)?,
+        Op::Jeq => jumps::jump_if(&seen, &mut p.s, z, i.x)?,
+        Op::Jne => jumps::jump_if(&seen, &mut p.s, !z, i.x)?,
+        Op::Jle => jumps::jump_if(&seen, &mut p.s, z | n, i.x)?,
+        Op::Jlt => jumps::jump_if(&seen, &mut p.s, !z & n, i.x)?,
+        Op::Jge => jumps::jump_if(&seen, &mut p.s, z | !n, i.x)?,
+        Op::Jgt => jumps::jump_if(&seen, &mut p.s, !z & !n, i.x)?,
+        Op::Ld => moves::ld(&seen, &mut p.s, i.x, i.r2)?,
+        Op::Mul => words::mul(&seen, &mut p.s, i.x, i.r2)?,
         Op::Neg => words::neg(&mut p.s, i.r1)?,
         Op::Nop => {}
         Op::Not => words::not(&mut p.s, i.r1)?,
-        Op::Or => words::or(cells, p, i.x, i.r2)?,
-        Op::Out => return out_request(cells, p, i.x, i.y),
-        Op::Pop => moves::pop(cells, p, i.r1)?,
+        Op::Or => words::or(&seen, &mut p.s, i.x, i.r2)?,
+        Op::Out => return out_request(&seen, &mut p.s, i.x, i.y),
+        Op::Pop => moves::pop(&seen, &mut p.s, i.r1)?,
         Op::Push => stores::push(cells, guard, p, i.x)?,
         Op::Reset => jumps::reset(&mut p.s)?,
-        Op::Rti => moves::rti(cells, p)?,
-        Op::Rtn => moves::rtn(cells, p)?,
-        Op::Shl => words::shl(cells, p, i.x, i.r2)?,
-        Op::Shr => words::shr(cells, p, i.x, i.r2)?,
+        Op::Rti => moves::rti(&seen, &mut p.s)?,
+        Op::Rtn => moves::rtn(&seen, &mut p.s)?,
+        Op::Shl => words::shl(&seen, &mut p.s, i.x, i.r2)?,
+        Op::Shr => words::shr(&seen, &mut p.s, i.x, i.r2)?,
         Op::St => stores::st(cells, guard, p, i.r1, i.y)?,
-        Op::Sub => words::sub(cells, p, i.x, i.r2)?,
+        Op::Sub => words::sub(&seen, &mut p.s, i.x, i.r2)?,
         Op::Swap => stores::swap(cells, guard, p, i.x, i.r2)?,
         Op::Trap => return Err(Error::Trap),
-        Op::Xor => words::xor(cells, p, i.x, i.r2)?,
+        Op::Xor => words::xor(&seen, &mut p.s, i.x, i.r2)?,
     }
     Ok(Request::Nothing)
 }

@@ -3,66 +3,61 @@
 ghost use Rattle.std.specs.Prelude.{◌≡◌, ◌≤◌};
 ghost use Rattle.definition.specs.Constants.{CELLS-MOST};
 ghost use Rattle.definition.specs.Memory.{cell_count};
-ghost use Rattle.definition.specs.Exec.{pop};
+ghost use Rattle.definition.specs.Exec.{pop, core};
 ghost use Rattle.definition.specs.Instructions.{ld, pop_op, rtn, rti};
-ghost use Rattle.registers.specs.Meaning.{res_of, core_of};
+ghost use Rattle.registers.specs.Meaning.{res_of};
+ghost use Rattle.arguments.specs.Seen.{cells_of};
 
-use arguments::{read, take_address, take_word};
-use definition::{Cell, Error, Operand, Reg};
-use registers::Plan;
+use arguments::{Seen, read, take_address, take_word};
+use definition::{Cell, Error, Operand, Reg, Registers};
 
 #[tactic(auto, using(registers::proofs::Laws::settled_is), unfolding(registers::specs::Meaning::res_of, definition::specs::Instructions::ld, definition::specs::Exec::and_then))]
-pub fn ld(cells: &[i64], p: &mut Plan, x: Operand, r: Reg) -> Result<(), Error>
-    ensures value { res_of result (core_of cells.now p.new) ≡ ld x r (core_of cells.now p.old) }
-    ensures write { p.new.write ≡ p.old.write }
+pub fn ld(seen: &Seen<'_>, s: &mut Registers, x: Operand, r: Reg) -> Result<(), Error>
+    ensures { res_of result (core (cells_of seen.now) s.new) ≡ ld x r (core (cells_of seen.now) s.old) }
 {
-    let v = arguments::cell_of(cells, p, x)?;
-    registers::put_reg(&mut p.s, r, v)
+    let v = arguments::cell_of(seen, s, x)?;
+    registers::put_reg(s, r, v)
 }
 
 // Computer::pop: "pop and rtn read at sp (outside: code 5, sp unmoved), then move sp, and only then test the value or set the register."
 #[tactic(auto, unfolding(registers::specs::Meaning::res_of, definition::specs::Exec::pop, definition::specs::Exec::and_then))]
-fn pop_cell(cells: &[i64], p: &mut Plan) -> Result<Cell, Error>
-    requires { cell_count cells.now ≤ CELLS-MOST }
-    ensures value { res_of result (core_of cells.now p.new) ≡ pop (core_of cells.now p.old) }
-    ensures write { p.new.write ≡ p.old.write }
+fn pop_cell(seen: &Seen<'_>, s: &mut Registers) -> Result<Cell, Error>
+    requires { cell_count seen.now.0.now ≤ CELLS-MOST }
+    ensures { res_of result (core (cells_of seen.now) s.new) ≡ pop (core (cells_of seen.now) s.old) }
 {
-    let v = read(cells, p, p.s.sp)?;
-    p.s.sp += 1;
+    let v = read(seen, s.sp)?;
+    s.sp += 1;
     Ok(v)
 }
 
 #[tactic(auto, using(registers::proofs::Laws::settled_is), unfolding(registers::specs::Meaning::res_of, definition::specs::Instructions::pop_op, definition::specs::Exec::and_then))]
-pub fn pop(cells: &[i64], p: &mut Plan, r: Reg) -> Result<(), Error>
-    requires { cell_count cells.now ≤ CELLS-MOST }
-    ensures value { res_of result (core_of cells.now p.new) ≡ pop_op r (core_of cells.now p.old) }
-    ensures write { p.new.write ≡ p.old.write }
+pub fn pop(seen: &Seen<'_>, s: &mut Registers, r: Reg) -> Result<(), Error>
+    requires { cell_count seen.now.0.now ≤ CELLS-MOST }
+    ensures { res_of result (core (cells_of seen.now) s.new) ≡ pop_op r (core (cells_of seen.now) s.old) }
 {
-    let top = pop_cell(cells, p)?;
-    registers::put_reg(&mut p.s, r, top)
+    let top = pop_cell(seen, s)?;
+    registers::put_reg(s, r, top)
 }
 
 #[tactic(auto, unfolding(registers::specs::Meaning::res_of, definition::specs::Instructions::rtn, definition::specs::Exec::and_then))]
-pub fn rtn(cells: &[i64], p: &mut Plan) -> Result<(), Error>
-    requires { cell_count cells.now ≤ CELLS-MOST }
-    ensures value { res_of result (core_of cells.now p.new) ≡ rtn (core_of cells.now p.old) }
-    ensures write { p.new.write ≡ p.old.write }
+pub fn rtn(seen: &Seen<'_>, s: &mut Registers) -> Result<(), Error>
+    requires { cell_count seen.now.0.now ≤ CELLS-MOST }
+    ensures { res_of result (core (cells_of seen.now) s.new) ≡ rtn (core (cells_of seen.now) s.old) }
 {
-    let v = pop_cell(cells, p)?;
-    p.s.pc = take_address(&mut p.s, v, Error::CellError)?;
+    let v = pop_cell(seen, s)?;
+    s.pc = take_address(s, v, Error::CellError)?;
     Ok(())
 }
 
 // "rti sets pc before it reads cell 101."
 #[tactic(auto, unfolding(registers::specs::Meaning::res_of, definition::specs::Instructions::rti, definition::specs::Exec::and_then))]
-pub fn rti(cells: &[i64], p: &mut Plan) -> Result<(), Error>
-    ensures value { res_of result (core_of cells.now p.new) ≡ rti (core_of cells.now p.old) }
-    ensures write { p.new.write ≡ p.old.write }
+pub fn rti(seen: &Seen<'_>, s: &mut Registers) -> Result<(), Error>
+    ensures { res_of result (core (cells_of seen.now) s.new) ≡ rti (core (cells_of seen.now) s.old) }
 {
-    super::check_privileged(&p.s)?;
-    let pc = read(cells, p, 100)?;
-    p.s.pc = take_address(&mut p.s, pc, Error::CellError)?;
-    let sr = read(cells, p, 101)?;
-    p.s.sr = take_word(&mut p.s, sr, Error::CellError)?;
+    super::check_privileged(s)?;
+    let pc = read(seen, 100)?;
+    s.pc = take_address(s, pc, Error::CellError)?;
+    let sr = read(seen, 101)?;
+    s.sr = take_word(s, sr, Error::CellError)?;
     Ok(())
 }

@@ -11,13 +11,17 @@ use Rattle.definition.specs.declared.Done.{Done}
 use Rattle.definition.specs.declared.Drained.{Drained}
 use Rattle.definition.specs.declared.Ran.{Ran}
 use Rattle.definition.specs.declared.Raised.{Raised}
-use Rattle.definition.specs.Runtime.{Outcome, completed, stopped}
-use Rattle.definition.specs.Calls.{accepted, passes, Called, called, answer, drain_answer, raise_answer, ran, run_refused, run_check, run_call, fresh_check, fresh, deliver_check, deliver, drain_check, drain, load_check, load, set_register_check, set_register, raise_check, raise, raised}
+use Rattle.definition.specs.Calls.{accepted, passes, Called, called, answer, drain_answer, raise_answer, ran, run_refused, run_check, run_call, fresh_check, fresh, deliver_check, deliver, drain_check, drain, load_check, load, set_register_check, set_register, raise_check, raise}
+use Rattle.definition.proofs.Refused.{raised-refusal}
 use Rattle.journal.specs.Journal.{with_start, whole_records, is_journal}
 use Rattle.journal.specs.Calls.{no_journal, with_journal, run_journal, emptied, fresh_journal, deliver_journal, drain_journal, load_journal, set_register_journal, raise_journal, Backward, back_check, backed, back}
 use Rattle.journal.specs.StepBack.{LeavesBoth, Empties, RefusedKeeps}
+use Rattle.journal.specs.Cases.{Cases}
+use Rattle.journal.proofs.Cases.{cases}
 
--- Not cited: proved first, so that a wrong call is refused at a case that shows it.
+-- The cases are proved first, so that a wrong call is refused at one that shows it.
+shown-first : Cases
+shown-first = cases
 
 -- ---- a call that is X where its own tests pass and else Y
 
@@ -40,11 +44,6 @@ module _ {A L : Type 0} (number : A → ℕ) (X Y : Called A L) (refused : A) (l
 -- a refusal's number is not 0
 failed : (d : Done) → passes d ≡ false → d.refusal ≢ 0
 failed d h e = true≢false (sym (eq-eqb d.refusal 0 e) ∙ h)
-
-raised-none : (cells row : List ℤ) (o : Outcome) → (raised cells row o).answer.refusal ≡ 0
-unfolding raised
-raised-none cells row (completed m) = refl
-raised-none cells row (stopped n d m) = refl
 
 abbrev done_number : Done → ℕ
 done_number a = a.refusal
@@ -88,6 +87,6 @@ refused-keeps =
       drain_keeps = λ output row buffer j. keeps drain_number _ _ (drain_answer no_journal 0) (row, buffer) (emptied j) j (passes (drain_check output row buffer)) (is_journal j) refl refl;
       load_keeps = λ cells image start j. keeps done_number _ _ no_journal cells (emptied j) j (passes (load_check cells image start)) (is_journal j) refl refl;
       set_register_keeps = λ row r w j. keeps done_number _ _ no_journal row (emptied j) j (passes (set_register_check row r w)) (is_journal j) refl refl;
-      raise_keeps = λ cells row code j. keeps raise_number _ _ (raise_answer no_journal 0 0) (cells, row) (emptied j) j (passes (raise_check cells row code)) (is_journal j) (raised-none cells row _) refl;
+      raise_keeps = λ cells row code j. keeps raise_number _ _ (raise_answer no_journal 0 0) (cells, row) (emptied j) j (passes (raise_check cells row code)) (is_journal j) (raised-refusal cells row _) refl;
       back_keeps = back-refused;
     }

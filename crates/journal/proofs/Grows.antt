@@ -1,6 +1,7 @@
 -- A run leaves the queue's bytes and the output that was counted: what going back, which is lent neither, needs of them.
 use Rattle.definition.specs.declared.Ending.{Ending}
-use Rattle.definition.specs.declared.Ending.TheVariants.{Exception, Stop}
+use Rattle.definition.specs.declared.Ending.TheVariants.{Exception, Stops}
+use Rattle.definition.specs.declared.Stop.TheVariants.{NoHandler, OutputFull, CyclesFull}
 use Rattle.definition.specs.declared.Executed.{Executed}
 use Rattle.definition.specs.declared.Request.{Request}
 use Rattle.definition.specs.declared.Request.TheVariants.{Nothing, Reads, Writes}
@@ -13,7 +14,7 @@ use lib.ListN.{length, get_or, take, length-set}
 use lib.Seq.{take-take, take-set-le}
 use lib.Dec.{ltb, eqb}
 use Rattle.definition.specs.Constants.{CYCLES-END, TIMER-INTERVAL-PORT}
-use Rattle.definition.specs.Exception.{ending, HARDWARE-INTERRUPT, NO-HANDLER, OUTPUT-FULL, CYCLES-FULL}
+use Rattle.definition.specs.Exception.{ending, HARDWARE-INTERRUPT}
 use Rattle.definition.specs.Registers.{interrupt_enable}
 use Rattle.definition.specs.Io.{Console, with_marks, input_ready, status, read_status, write_control, around, read_data, read_port, write_data, write_port, output_full}
 use Rattle.definition.specs.Timer.{with_timer_mark, set_timer, tick}
@@ -64,16 +65,16 @@ write-grows p w k = go (eqb p 110) (eqb p 111)
 abbrev TurnGrows : Console → Turn → Type 0
 TurnGrows a (completes m) = Grows a m.console
 TurnGrows a (enters k m) = Grows a m.console
-TurnGrows a (stops n d m) = Grows a m.console
+TurnGrows a (stops s m) = Grows a m.console
 
 abbrev pub OutcomeGrows : Console → Outcome → Type 0
 OutcomeGrows a (completed m) = Grows a m.console
-OutcomeGrows a (stopped n d m) = Grows a m.console
+OutcomeGrows a (stopped s m) = Grows a m.console
 
 ends-grows : (a : Console) (e : Ending) (m : Machine) → Grows a m.console → TurnGrows a (ends e m)
 unfolding ends
 ends-grows a (Exception k) m p = p
-ends-grows a (Stop n d) m p = p
+ends-grows a (Stops s) m p = p
 
 poll-grows : (a : Console) (m : Machine) → Grows a m.console → TurnGrows a (poll m)
 unfolding poll
@@ -95,7 +96,7 @@ serve-grows m Nothing cost c = conclude-grows m.console cost m (ok tt c) (grows-
 serve-grows m (Reads p r) cost c = conclude-grows m.console cost (with_console (read_port p m.console).1 m) _ (read-grows p m.console)
 serve-grows m (Writes p w) cost c = go (output_full p m.console) (eqb p TIMER-INTERVAL-PORT)
   where
-    go : (t d : Bool) → TurnGrows m.console (cond t (stops OUTPUT-FULL 0 m) (cond d (poll (with_timer (set_timer w m.timer) (executed cost c m))) (conclude cost (with_console (write_port p w m.console) m) (ok tt c))))
+    go : (t d : Bool) → TurnGrows m.console (cond t (stops OutputFull m) (cond d (poll (with_timer (set_timer w m.timer) (executed cost c m))) (conclude cost (with_console (write_port p w m.console) m) (ok tt c))))
     go true d = grows-here m.console
     go false true = poll-grows m.console (with_timer (set_timer w m.timer) (executed cost c m)) (grows-here m.console)
     go false false = conclude-grows m.console cost (with_console (write_port p w m.console) m) (ok tt c) (write-grows p w m.console)
@@ -110,21 +111,21 @@ unfolding settle recover elapses entered
 settle-grows a (completes m) p = p
 settle-grows a (enters k m) p = go (has_handler m.core.cells)
   where
-    go : (t : Bool) → OutcomeGrows a (elapses k (cond t (completed (entered k m)) (stopped NO-HANDLER k m)))
+    go : (t : Bool) → OutcomeGrows a (elapses k (cond t (completed (entered k m)) (stopped (NoHandler k) m)))
     go true = p
     go false = p
-settle-grows a (stops n d m) p = p
+settle-grows a (stops s m) p = p
 
 limit-grows : (m : Machine) (o : Outcome) → OutcomeGrows m.console o → OutcomeGrows m.console (limit m o)
 unfolding limit reached
 limit-grows m (completed w) q = go (ltb w.cycles CYCLES-END)
   where
-    go : (b : Bool) → OutcomeGrows m.console (cond b (completed w) (stopped CYCLES-FULL 0 m))
+    go : (b : Bool) → OutcomeGrows m.console (cond b (completed w) (stopped CyclesFull m))
     go true = q
     go false = grows-here m.console
-limit-grows m (stopped n d w) q = go (ltb w.cycles CYCLES-END)
+limit-grows m (stopped s w) q = go (ltb w.cycles CYCLES-END)
   where
-    go : (b : Bool) → OutcomeGrows m.console (cond b (stopped n d w) (stopped CYCLES-FULL 0 m))
+    go : (b : Bool) → OutcomeGrows m.console (cond b (stopped s w) (stopped CyclesFull m))
     go true = q
     go false = grows-here m.console
 

@@ -14,5 +14,4 @@ pub mod StepBack
 pub mod Past
 pub mod Calls
 pub mod Leaves
-pub mod Run
 pub mod Turn

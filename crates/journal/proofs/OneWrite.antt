@@ -144,7 +144,7 @@ entry-few (enters k m) = go (has_handler m.core.cells)
     go : (b : Bool) → length (cond b (held_at m.core.cells 100 ∷ held_at m.core.cells 101 ∷ held_at m.core.cells 102 ∷ []) []) ≤ 3
     go true = omega arith
     go false = omega arith
-entry-few (stops n d m) = omega arith
+entry-few (stops s m) = omega arith
 
 pub four-at-most : FourAtMost
 unfolding step_writes instruction_writes

@@ -9,12 +9,13 @@ use lib.Seq.{get_or_at}
 use lib.Dec.{eqb}
 use borrow.Author.Tests.{ne_eqb}
 use Rattle.definition.specs.declared.Ran.{Ran}
+use Rattle.definition.specs.Exception.{stop_number}
 use Rattle.definition.specs.Runtime.{Machine, Outcome, completed, stopped, step, later, go_on, run, uncounted}
 use Rattle.definition.specs.Calls.{Called, Lent, lent_machine, lent_of, ran}
 use Rattle.definition.specs.UserMode.{Accepted}
 use Rattle.definition.specs.Accepted.{AcceptedMachine}
 use Rattle.definition.proofs.Row.{accepted-machine}
-use Rattle.definition.proofs.Accepted.{Stepped, OutcomeHas, uncounted-in, step-accepted, call-is}
+use Rattle.definition.proofs.Accepted.{Stepped, OutcomeHas, uncounted-in, step-accepted, stop-some, call-is}
 use Rattle.journal.specs.Journal.{begins, begun}
 use Rattle.journal.specs.StepBack.{go_on_past, past, Past}
 
@@ -28,7 +29,7 @@ go-append : (n : ℕ) (m : Machine) (o : Outcome) (h : List Machine) → ((w : M
 unfolding go_on_past begun
 go-append n m (completed w) h ih =
     ih (uncounted w) (m ∷ h) ∙ sym (ap (λ (l : List Machine). l ++ h) (ih (uncounted w) (m ∷ [])) ∙ append_assoc (past n (uncounted w) []) (m ∷ []) h)
-go-append n m (stopped k d w) h ih = go (begins k)
+go-append n m (stopped s w) h ih = go (begins (stop_number s))
   where
     go : (b : Bool) → cond b (m ∷ h) h ≡ cond b (m ∷ []) [] ++ h
     go true = refl
@@ -67,7 +68,7 @@ go-each n m (completed w) e s ih i k q =
         let b : i < length p = omega arith in
         let c : suc i + k ≡ length p = omega arith in
         get_or-append p (m ∷ []) e i b ∙ ih (uncounted w) i k c ∙ sym (run-first k m w s)
-go-each n m (stopped c d w) e s ih i k q = go (begins c) i k q
+go-each n m (stopped c w) e s ih i k q = go (begins (stop_number c)) i k q
   where
     go : (b : Bool) (i k : ℕ) → suc i + k ≡ length (cond b (m ∷ []) []) → get_or (cond b (m ∷ []) []) i e ≡ (run k m).left
     go true zero zero q = sym (run_none m)
@@ -104,7 +105,7 @@ go-many n m (completed w) s ih =
     let b : length p ≡ (run n (uncounted w)).steps + stopping (run n (uncounted w)).stop = ih (uncounted w) (uncounted-in w s) in
     let c : length p + 1 ≡ 1 + (run n (uncounted w)).steps + stopping (run n (uncounted w)).stop = omega arith in
     a ∙ c
-go-many n m (stopped c d w) s ih = stops-one m c s.0
+go-many n m (stopped c w) s ih = stops-one m (stop_number c) (stop-some c)
 
 past-many : (n : ℕ) (m : Machine) → AcceptedMachine m → length (past n m []) ≡ (run n m).steps + stopping (run n m).stop
 unfolding past run

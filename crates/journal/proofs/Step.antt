@@ -12,7 +12,8 @@ use lib.Dec.{ltb, eqb}
 use Rattle.definition.specs.declared.Error.{Error}
 use Rattle.definition.specs.declared.Error.TheVariants.{DivByZero, InvalidInstruction, PrivilegedInstruction, Trap, InvalidMemoryAccess, CellError, Extract, InvalidPc, InvalidSp, InvalidSr, Reset}
 use Rattle.definition.specs.Constants.{CYCLES-END, TIMER-INTERVAL-PORT}
-use Rattle.definition.specs.Exception.{ending, HARDWARE-INTERRUPT, NO-HANDLER, OUTPUT-FULL, CYCLES-FULL}
+use Rattle.definition.specs.declared.Stop.TheVariants as S
+use Rattle.definition.specs.Exception.{ending, HARDWARE-INTERRUPT, stop_number}
 use Rattle.definition.specs.Memory.{word, cell_count}
 use Rattle.definition.specs.Registers.{interrupt_enable}
 use Rattle.definition.specs.Io.{read_port, write_port, output_full}
@@ -26,7 +27,6 @@ use Rattle.definition.proofs.AcceptedCore.{any_laws}
 use Rattle.journal.specs.Writes.{Held, held_at, instruction_writes, entry_writes, step_writes, undone}
 use Rattle.journal.specs.Journal.{begins}
 use Rattle.journal.specs.StepBack.{cells_of, SoundCells}
--- Not cited: proved first, so that a step noted wrongly is refused there.
 use Rattle.journal.proofs.Still.{s-set}
 use Rattle.journal.proofs.Cells.{undone-append, undone-count, saved-back}
 use Rattle.journal.proofs.OneWrite.{InList, attempt-holds}
@@ -36,7 +36,7 @@ use Rattle.journal.proofs.OneWrite.{InList, attempt-holds}
 abbrev TurnCells : Machine → List ℤ → Turn → Type 0
 TurnCells m l (completes w) = w.core.cells ≡ l
 TurnCells m l (enters k w) = w.core.cells ≡ l
-TurnCells m l (stops n d w) = (begins n ≡ true → w.core.cells ≡ l) × (begins n ≡ false → w ≡ m)
+TurnCells m l (stops s w) = (begins (stop_number s) ≡ true → w.core.cells ≡ l) × (begins (stop_number s) ≡ false → w ≡ m)
 
 module _ (m : Machine) (l : List ℤ) where
   ends-cells : (e : Error) (w : Machine) → w.core.cells ≡ l → TurnCells m l (ends (ending e) w)
@@ -74,7 +74,7 @@ module _ (m : Machine) (l : List ℤ) where
       conclude-cells cost (with_console (read_port p m.console).1 m) (set_register r (word (pos (read_timer p m.timer (read_port p m.console).0))) c) ((s-set r _).at c ∙ e)
   serve-cells (Writes p w) cost c e = go (output_full p m.console) (eqb p TIMER-INTERVAL-PORT)
     where
-      go : (t d : Bool) → TurnCells m l (cond t (stops OUTPUT-FULL 0 m) (cond d (poll (with_timer (set_timer w m.timer) (executed cost c m))) (conclude cost (with_console (write_port p w m.console) m) (ok tt c))))
+      go : (t d : Bool) → TurnCells m l (cond t (stops S.OutputFull m) (cond d (poll (with_timer (set_timer w m.timer) (executed cost c m))) (conclude cost (with_console (write_port p w m.console) m) (ok tt c))))
       go true d = ((λ h. absurd (true≢false (sym h))), λ h. refl)
       go false true = poll-cells (with_timer (set_timer w m.timer) (executed cost c m)) e
       go false false = conclude-cells cost (with_console (write_port p w m.console) m) (ok tt c) e
@@ -92,7 +92,7 @@ turn-cells m = after-cells m (cells_of (attempt (guard m) m.core)) (attempt (gua
 
 abbrev pub OutcomeUndone : Machine → List Held → Outcome → Type 0
 OutcomeUndone m hs (completed w) = undone hs w.core.cells ≡ m.core.cells
-OutcomeUndone m hs (stopped n d w) = (begins n ≡ true → undone hs w.core.cells ≡ m.core.cells) × (begins n ≡ false → w ≡ m)
+OutcomeUndone m hs (stopped s w) = (begins (stop_number s) ≡ true → undone hs w.core.cells ≡ m.core.cells) × (begins (stop_number s) ≡ false → w ≡ m)
 
 module _ (m : Machine) (l : List ℤ) (hs : List Held) (u : undone hs l ≡ m.core.cells) (low : 256 ≤ cell_count l) where
   plainly : (k : List ℤ) → k ≡ l → undone (hs ++ []) k ≡ m.core.cells
@@ -104,24 +104,24 @@ module _ (m : Machine) (l : List ℤ) (hs : List Held) (u : undone hs l ≡ m.co
   settle-undone (completes w) q = plainly w.core.cells q
   settle-undone (enters k w) q = go (has_handler w.core.cells)
     where
-      go : (b : Bool) → OutcomeUndone m (hs ++ cond b (held_at w.core.cells 100 ∷ held_at w.core.cells 101 ∷ held_at w.core.cells 102 ∷ []) []) (elapses k (cond b (completed (entered k w)) (stopped NO-HANDLER k w)))
+      go : (b : Bool) → OutcomeUndone m (hs ++ cond b (held_at w.core.cells 100 ∷ held_at w.core.cells 101 ∷ held_at w.core.cells 102 ∷ []) []) (elapses k (cond b (completed (entered k w)) (stopped (S.NoHandler k) w)))
       go true =
           undone-append hs (held_at w.core.cells 100 ∷ held_at w.core.cells 101 ∷ held_at w.core.cells 102 ∷ []) _
           ∙ ap (undone hs) (saved-back w.core.regs.pc w.core.regs.sr k w.core.cells (subst (λ (x : List ℤ). 256 ≤ cell_count x) (sym q) low) ∙ q)
           ∙ u
       go false = ((λ h. plainly w.core.cells q), λ h. absurd (true≢false h))
-  settle-undone (stops n d w) q = ((λ h. plainly w.core.cells (q.0 h)), q.1)
+  settle-undone (stops s w) q = ((λ h. plainly w.core.cells (q.0 h)), q.1)
 
 limit-undone : (m : Machine) (hs : List Held) (o : Outcome) → OutcomeUndone m hs o → OutcomeUndone m hs (limit m o)
 unfolding limit reached begins
 limit-undone m hs (completed w) q = go (ltb w.cycles CYCLES-END)
   where
-    go : (b : Bool) → OutcomeUndone m hs (cond b (completed w) (stopped CYCLES-FULL 0 m))
+    go : (b : Bool) → OutcomeUndone m hs (cond b (completed w) (stopped S.CyclesFull m))
     go true = q
     go false = ((λ h. absurd (true≢false (sym h))), λ h. refl)
-limit-undone m hs (stopped n d w) q = go (ltb w.cycles CYCLES-END)
+limit-undone m hs (stopped s w) q = go (ltb w.cycles CYCLES-END)
   where
-    go : (b : Bool) → OutcomeUndone m hs (cond b (stopped n d w) (stopped CYCLES-FULL 0 m))
+    go : (b : Bool) → OutcomeUndone m hs (cond b (stopped s w) (stopped S.CyclesFull m))
     go true = q
     go false = ((λ h. absurd (true≢false (sym h))), λ h. refl)
 
@@ -171,7 +171,7 @@ entry-fit m l (enters k w) q low s =
     go true =
         ((let h : 100 < cell_count l = omega arith in h, s 100 (omega arith)), ((let h : 101 < cell_count l = omega arith in h, s 101 (omega arith)), ((let h : 102 < cell_count l = omega arith in h, s 102 (omega arith)), tt)))
     go false = tt
-entry-fit m l (stops n d w) q low s = tt
+entry-fit m l (stops why w) q low s = tt
 
 abbrev Any : {X : Type 0} → X → Type 0
 Any v = Unit {0}

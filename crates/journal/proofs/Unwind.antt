@@ -12,6 +12,7 @@ use Rattle.definition.specs.declared.Done.{Done}
 use Rattle.definition.specs.Constants.{QUEUE-MOST, OUTPUT-MOST}
 use Rattle.definition.specs.Memory.{cell_count}
 use Rattle.definition.specs.Io.{Console}
+use Rattle.definition.specs.Exception.{stop_number}
 use Rattle.definition.specs.Runtime.{Machine, Outcome, completed, stopped, step, later, go_on, run, uncounted}
 use Rattle.definition.specs.Calls.{row_of, accepted, passes, row_tests, Called, called}
 use Rattle.definition.specs.Accepted.{AcceptedMachine}
@@ -119,9 +120,9 @@ go-noted : (r n : ℕ) (m : Machine) (j : List ℤ) (h : List Machine) (o : Outc
 unfolding go_on later go_on_noting go_on_past begun
 go-noted r n m j h (completed w) a q s u g ih =
     ih (uncounted w) _ _ (uncounted-in w s) (one-noted r m w.core.cells w.console j h q a u g)
-go-noted r n m j h (stopped c d w) a q s u g ih = go (begins c) refl
+go-noted r n m j h (stopped c w) a q s u g ih = go (begins (stop_number c)) refl
   where
-    go : (b : Bool) → begins c ≡ b → Noted r w.core.cells w.console (cond b (remember (step_record m) j) j) (cond b (m ∷ h) h)
+    go : (b : Bool) → begins (stop_number c) ≡ b → Noted r w.core.cells w.console (cond b (remember (step_record m) j) j) (cond b (m ∷ h) h)
     go true e = one-noted r m w.core.cells w.console j h q a (u.0 e) g
     go false e = subst (λ (x : Machine). Noted r x.core.cells x.console j h) (sym (u.1 e)) q
 

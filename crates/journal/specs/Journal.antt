@@ -1,7 +1,7 @@
 -- "Step back" (document 02, Card 11): the journal as signed 64-bit numbers, and what a run writes into it.
 use Rattle.std.specs.Prelude.{Bool, true, not, cond, ◌&&◌, ◌||◌, List, [], ◌∷◌, ◌++◌, ℕ, zero, suc, ◌+◌, ◌*◌, ◌-◌, ◌/◌, ◌%◌, ℤ, pos, nat_abs, length, get_or, set, take, drop, replicate, ltb, leb, eqb}
 use Rattle.definition.specs.Constants.{ROW}
-use Rattle.definition.specs.Exception.{OUTPUT-FULL, CYCLES-FULL}
+use Rattle.definition.specs.Exception.{OUTPUT-FULL, CYCLES-FULL, stop_number}
 use Rattle.definition.specs.Memory.{cell, put_cell}
 use Rattle.definition.specs.Io.{around}
 use Rattle.definition.specs.Runtime.{Machine, Outcome, completed, stopped, step, uncounted}
@@ -110,13 +110,13 @@ is_journal j =
 
 -- ---- a run
 
--- "stops 6 and 7 begin no step"
+-- "stops 6 and 7 begin no step": by its number, as a run answers it.
 unfoldable pub begins : ℕ → Bool
 begins n = not (eqb n OUTPUT-FULL || eqb n CYCLES-FULL)
 
 unfoldable pub begun : Outcome → Bool
 begun (completed w) = true
-begun (stopped n d w) = begins n
+begun (stopped s w) = begins (stop_number s)
 
 -- "the row before and what the cells it wrote held": of the step from m.
 unfoldable pub step_record : Machine → List ℤ
@@ -128,7 +128,7 @@ noted m j = cond (begun (step m)) (remember (step_record m) j) j
 
 unfoldable pub go_on_noting : Outcome → List ℤ → (Machine → List ℤ → List ℤ) → List ℤ
 go_on_noting (completed w) j k = k (uncounted w) j
-go_on_noting (stopped n d w) j k = j
+go_on_noting (stopped s w) j k = j
 
 -- The journal after a run from m on a budget, which begins the steps of Runtime's `run`.
 unfoldable pub journal : ℕ → Machine → List ℤ → List ℤ

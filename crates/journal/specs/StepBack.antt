@@ -2,7 +2,9 @@
 use Rattle.std.specs.Prelude.{◌≡◌, ◌≢◌, true, not, cond, ◌||◌, List, [], ◌∷◌, ℕ, zero, suc, ◌+◌, ◌<◌, ◌≤◌, ℤ, length, get_or, take, eqb}
 use Rattle.definition.specs.declared.Cell.{Cell}
 use Rattle.definition.specs.declared.Error.TheVariants.{InvalidMemoryAccess}
-use Rattle.definition.specs.Exception.{BUDGET-SPENT, OUTPUT-FULL, CYCLES-FULL}
+use Rattle.definition.specs.declared.Stop.{Stop}
+use Rattle.definition.specs.declared.Stop.TheVariants.{OutputFull, CyclesFull}
+use Rattle.definition.specs.Exception.{BUDGET-SPENT}
 use Rattle.definition.specs.Constants.{QUEUE-MOST, OUTPUT-MOST}
 use Rattle.definition.specs.Memory.{cell_count, cell_at, put_cell}
 use Rattle.definition.specs.Exec.{Core, Res, ok, err}
@@ -59,16 +61,16 @@ Ring = (r j : List ℤ) → is_journal j ≡ true → length r ≡ RECORD → Re
 -- "keeps, for every step begun [...]; stops 6 and 7 begin no step"
 pub record Notes (m : Machine) (j : List ℤ) : Type 0 where
   pub completes : (w : Machine) → step m ≡ completed w → noted m j ≡ remember (step_record m) j
-  pub stops : (n d : ℕ) (w : Machine) → step m ≡ stopped n d w → n ≢ OUTPUT-FULL → n ≢ CYCLES-FULL → noted m j ≡ remember (step_record m) j
-  pub stop_6 : (d : ℕ) (w : Machine) → step m ≡ stopped OUTPUT-FULL d w → noted m j ≡ j
-  pub stop_7 : (d : ℕ) (w : Machine) → step m ≡ stopped CYCLES-FULL d w → noted m j ≡ j
+  pub stops : (s : Stop) (w : Machine) → step m ≡ stopped s w → s ≢ OutputFull → s ≢ CyclesFull → noted m j ≡ remember (step_record m) j
+  pub stop_6 : (w : Machine) → step m ≡ stopped OutputFull w → noted m j ≡ j
+  pub stop_7 : (w : Machine) → step m ≡ stopped CyclesFull w → noted m j ≡ j
 
 -- ---- going back
 
 -- The machines before the steps that a run begins, that of the last step first, and behind them those of h.
 unfoldable pub go_on_past : Outcome → List Machine → (Machine → List Machine → List Machine) → List Machine
 go_on_past (completed w) h k = k (uncounted w) h
-go_on_past (stopped n d w) h k = h
+go_on_past (stopped s w) h k = h
 
 unfoldable pub past : ℕ → Machine → List Machine → List Machine
 past zero m h = h

@@ -61,39 +61,12 @@ unfoldable pub nowhere : Exec ℕ
 nowhere = raise InvalidInstruction
 
 unfoldable pub aim : Op → Operand → Operand → Reg → Reg → Exec ℕ
-aim O.Add x y r₁ r₂ = nowhere
-aim O.And x y r₁ r₂ = nowhere
 aim O.Call x y r₁ r₂ = aim_push
-aim O.Cmp x y r₁ r₂ = nowhere
-aim O.Div x y r₁ r₂ = nowhere
 aim O.Fas x y r₁ r₂ = aim_fas x
-aim O.In x y r₁ r₂ = nowhere
-aim O.Jmp x y r₁ r₂ = nowhere
-aim O.Jeq x y r₁ r₂ = nowhere
-aim O.Jne x y r₁ r₂ = nowhere
-aim O.Jle x y r₁ r₂ = nowhere
-aim O.Jlt x y r₁ r₂ = nowhere
-aim O.Jge x y r₁ r₂ = nowhere
-aim O.Jgt x y r₁ r₂ = nowhere
-aim O.Ld x y r₁ r₂ = nowhere
-aim O.Mul x y r₁ r₂ = nowhere
-aim O.Neg x y r₁ r₂ = nowhere
-aim O.Nop x y r₁ r₂ = nowhere
-aim O.Not x y r₁ r₂ = nowhere
-aim O.Or x y r₁ r₂ = nowhere
-aim O.Out x y r₁ r₂ = nowhere
-aim O.Pop x y r₁ r₂ = nowhere
 aim O.Push x y r₁ r₂ = aim_push_op x
-aim O.Reset x y r₁ r₂ = nowhere
-aim O.Rti x y r₁ r₂ = nowhere
-aim O.Rtn x y r₁ r₂ = nowhere
-aim O.Shl x y r₁ r₂ = nowhere
-aim O.Shr x y r₁ r₂ = nowhere
 aim O.St x y r₁ r₂ = aim_st r₁ y
-aim O.Sub x y r₁ r₂ = nowhere
 aim O.Swap x y r₁ r₂ = aim_swap x r₂
-aim O.Trap x y r₁ r₂ = nowhere
-aim O.Xor x y r₁ r₂ = nowhere
+aim op x y r₁ r₂ = nowhere
 
 -- The fetched instruction's.
 unfoldable pub aimed : Exec ℕ
@@ -115,7 +88,7 @@ entry_writes (completes m) = []
 entry_writes (enters k m) =
     let l = m.core.cells in
     cond (has_handler l) (held_at l INTERRUPT-PC-SAVE ∷ held_at l INTERRUPT-SR-SAVE ∷ held_at l INTERRUPT-EXCEPTION ∷ []) []
-entry_writes (stops n d m) = []
+entry_writes (stops s m) = []
 
 -- "what the cells it wrote held", "in order of writing": the instruction's, then those of entry. A cell written by both is there twice, each
 -- time as it was just before that write.

@@ -1,4 +1,4 @@
-// set register, with a journal
+// set register, with a journal: r is C's number, as in calls
 ghost use Rattle.std.specs.Prelude.{◌≡◌};
 ghost use Rattle.definition.specs.Calls.{called};
 ghost use Rattle.definition.specs.Answers.{done_of};

@@ -12,7 +12,7 @@ use super::operands::{DEPTH, operand};
 use super::{Arg, Body, Line};
 use encoding::forms::is_legal;
 use expression::labels::Labels;
-use expression::text::{is_same, skip_spaces, split_label, split_name, token};
+use expression::text::{skip_spaces, split_label, split_name, token};
 use expression::{Read, sum};
 
 // Only one of the 124 forms.
@@ -58,7 +58,7 @@ pub fn content<'a>(s: &'a [u8], labels: &Labels) -> Read<'a, Body>
 {
     if let [b'.', rest @ ..] = s {
         let (name, rest) = split_name(rest);
-        if is_same(b"word", name) {
+        if b"word".as_slice() == name {
             return word_after(rest, labels);
         }
         return None;

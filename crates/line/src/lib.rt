@@ -9,7 +9,8 @@ pub mod operands;
 
 use expression::Value;
 
-// An operand, by its mode. A register's number is the place of its name, and a digit of the tag.
+// An operand, by its mode. A register's number is the place of its name, and a digit of the tag. Not the definition's Operand made generic: a
+// value here is not judged yet, and each function of the machine would name both types.
 #[derive(Clone, Copy)]
 pub enum Arg {
     None,

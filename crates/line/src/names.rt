@@ -1,52 +1,28 @@
-// Mnemonics and registers: a name of at most 5 letters is one number, its key, and is looked up by it.
-ghost use Rattle.std.specs.Prelude.{◌≡◌, ◌≤◌, ◌==◌, length, position};
-ghost use Rattle.expression.specs.Reader.{front, past, is_letter};
+// Mnemonics and registers.
+ghost use Rattle.std.specs.Prelude.{◌≡◌, ◌≤◌, length, map};
 ghost use Rattle.expression.specs.Code.{told};
 ghost use Rattle.assembly.specs.Grammar.{mnemonics, registers};
-ghost use Rattle.line.specs.Names.{short_key, keyed_at, named_at};
+ghost use Rattle.line.specs.Names.{named_at};
 
 use expression::Read;
 use expression::text::split_name;
 
-// The keys of the mnemonics, in the order of `Instruction`.
-pub const MNEMONICS: [u64; 33] = [
-    9251, 11811, 797796, 28035, 35251, 49563, 2418, 85379, 83339, 85547, 85035, 85155, 83755,
-    83875, 3106, 111971, 116027, 118659, 118691, 3986, 128419, 135043, 4371268, 152462757, 152651,
-    152691, 157795, 157843, 5026, 161043, 5169540, 5390724, 200595,
+// The mnemonics, in the order of `Op`. Statics: a constant array would be built anew where it is indexed.
+pub static MNEMONICS: [&[u8]; 33] = [
+    b"add", b"and", b"call", b"cmp", b"div", b"fas", b"in", b"jmp", b"jeq", b"jne", b"jle", b"jlt",
+    b"jge", b"jgt", b"ld", b"mul", b"neg", b"nop", b"not", b"or", b"out", b"pop", b"push",
+    b"reset", b"rti", b"rtn", b"shl", b"shr", b"st", b"sub", b"swap", b"trap", b"xor",
 ];
 
-// The keys of a, b, pc, sp and sr.
-pub const REGISTERS: [u64; 5] = [9, 17, 4122, 4994, 5010];
+pub static REGISTERS: [&[u8]; 5] = [b"a", b"b", b"pc", b"sp", b"sr"];
 
-// The key of the name that a text begins with, 0 for one of more than 5 letters, and the rest.
-pub fn split_key(s: &[u8]) -> (u64, &[u8])
-    ensures { (result.0 ≡ short_key (front is_letter s.now)) × (result.1.now ≡ past is_letter s.now) }
+// The place among names of the name that a text begins with, and the rest.
+fn named<'a>(names: &[&[u8]], s: &'a [u8]) -> Read<'a, u32>
+    requires { length names.now ≤ 33 }
+    ensures { told result ≡ named_at (map (λ n. n.now) names.now) s.now }
 {
     let (name, rest) = split_name(s);
-    if name.len() > 5 {
-        return (0, rest);
-    }
-    let mut key: u64 = 0;
-    for letter in name {
-        key = key * 32 + (*letter - 96) as u64;
-    }
-    (key * 8 + name.len() as u64, rest)
-}
-
-// The place of a key among keys.
-pub fn place(keys: &[u64], key: u64) -> Option<usize>
-    ensures { result ≡ position (λ k. k == key) keys.now }
-{
-    keys.iter().position(|k| *k == key)
-}
-
-// The place of the name that a text begins with, by the keys of names, and the rest.
-fn named<'a>(keys: &[u64], s: &'a [u8]) -> Read<'a, u32>
-    requires { length keys.now ≤ 33 }
-    ensures { told result ≡ keyed_at keys.now s.now }
-{
-    let (key, rest) = split_key(s);
-    let place = place(keys, key)?;
+    let place = names.iter().position(|n| *n == name)?;
     Some((place as u32, rest))
 }
 

@@ -5,7 +5,7 @@ use mathlib.Core.List.{List, [], ◌∷◌, ◌++◌, foldl, foldl-append}
 use Prim.Native.Nat.{ℕ, suc, ◌+◌, ◌*◌, ◌-◌, ◌≤◌, ◌<◌}
 use native.Mathlib.Omega.{arith}
 use lib.IntN.{ℤ, pos, nat_abs}
-use Rattle.std.specs.Prelude.{None}
+use Rattle.std.specs.Prelude.{Option, Some, None, unwrap_or}
 use borrow.Author.Tests.{lt-ltb, le-ltb, le-leb, ne_eqb}
 use Rattle.definition.specs.Word.{address_of}
 use Rattle.definition.specs.Memory.{cell, put_cell}
@@ -16,12 +16,12 @@ use Rattle.decimal.proofs.Laws.{value-plus, value-minus}
 use Rattle.lines.specs.declared.Field.{Field}
 use Rattle.lines.specs.declared.Start.{Start}
 use Rattle.lines.specs.declared.Reader.{Reader}
-use Rattle.lines.specs.Reader.{no_field, opened, limit, value_of, letter, opening_byte, digit, comma, minus, plain, within, following, next, start_line, State, state, cell_line, line_end, step, broken_line, empty_cells, read_text}
+use Rattle.lines.specs.Reader.{no_field, has_digits, size_of, opened, limit, value_of, letter, opening_byte, digit, comma, minus, plain, within, following, next, start_line, State, state, cell_line, line_end, step, broken_line, empty_cells, read_text}
 use Rattle.lines.specs.Grammar.{Digits, Numeral, StartLine, CellLine, CellLines, Image}
 use Rattle.lines.specs.Grammar as G
 
-abbrev pub field_of : Bool → Bool → ℕ → Field
-field_of b d m = record { minus = b; digits = d; magnitude = m }
+abbrev pub field_of : Bool → Option ℕ → Field
+field_of b m = record { minus = b; magnitude = m }
 
 abbrev pub start_of : ℤ → ℤ → ℤ → Start
 start_of pc sp sr = record { pc = pc; sp = sp; sr = sr }
@@ -36,38 +36,38 @@ module _ (n : ℕ) (st : Start) (l : List ℤ) (k : ℕ) (x y z : ℤ) where
   here f = state (at n st k x y z f) l
 
   -- one digit
-  digit-taken : (b t : Bool) (m d : ℕ) → d < 10 → m * 10 + d ≤ limit b → step (here (field_of b t m)) (48 + d) ≡ here (field_of b true (m * 10 + d))
+  digit-taken : (b : Bool) (m : Option ℕ) (d : ℕ) → d < 10 → unwrap_or m 0 * 10 + d ≤ limit b → step (here (field_of b m)) (48 + d) ≡ here (field_of b (Some (unwrap_or m 0 * 10 + d)))
   unfolding step within plain digit
-  digit-taken b t m d h f =
+  digit-taken b m d h f =
       let e : (48 + d) - 48 ≡ d = omega arith in
-      rw (ne_eqb (48 + d) 10 (omega arith), le-ltb (48 + d) 48 (omega arith), lt-ltb (48 + d) 58 (omega arith), e, le-leb (m * 10 + d) (limit b) f)
+      rw (ne_eqb (48 + d) 10 (omega arith), le-ltb (48 + d) 48 (omega arith), lt-ltb (48 + d) 58 (omega arith), e, le-leb (unwrap_or m 0 * 10 + d) (limit b) f)
 
-  digits-taken : {s : List ℕ} {v : ℕ} → Digits s v → (b : Bool) → v ≤ limit b → foldl step (here (field_of b false 0)) s ≡ here (field_of b true v)
+  digits-taken : {s : List ℕ} {v : ℕ} → Digits s v → (b : Bool) → v ≤ limit b → foldl step (here (field_of b None)) s ≡ here (field_of b (Some v))
   digits-taken (D.one {d} h) b f = let e : 0 * 10 + d ≡ d = omega arith in
-      rw e at (digit-taken b false 0 d h (omega arith))
+      rw e at (digit-taken b None d h (omega arith))
   digits-taken (D.more {s} {v} {d} r h) b f =
-      foldl-append step (here (field_of b false 0)) s ((48 + d) ∷ [])
+      foldl-append step (here (field_of b None)) s ((48 + d) ∷ [])
       ∙ ap (λ (u : State). step u (48 + d)) (digits-taken r b (omega arith))
-      ∙ digit-taken b true v d h f
+      ∙ digit-taken b (Some v) d h f
 
-  minus-taken : step (here no_field) 45 ≡ here (field_of true false 0)
+  minus-taken : step (here no_field) 45 ≡ here (field_of true None)
   unfolding step within plain minus
   minus-taken = refl
 
   -- a number from the start of a field
   record Read (s : List ℕ) (w : ℤ) : Type 0 where
     f : Field
-    whole : f.digits ≡ true
-    value : value_of f.minus f.magnitude ≡ w
+    whole : has_digits f ≡ true
+    value : value_of f.minus (size_of f) ≡ w
     reads : foldl step (here no_field) s ≡ here f
 
   numeral-taken : {s : List ℕ} {w : ℤ} → Numeral s w → Read s w
   numeral-taken (G.plus {s} {v} r h) =
-      record { f = field_of false true v; whole = refl; value = value-plus v h; reads = digits-taken r false h }
+      record { f = field_of false (Some v); whole = refl; value = value-plus v h; reads = digits-taken r false h }
   numeral-taken (G.minus {s} {v} r h) =
-      record { f = field_of true true v; whole = refl; value = value-minus v h; reads = ap (λ (u : State). foldl step u s) minus-taken ∙ digits-taken r true h }
+      record { f = field_of true (Some v); whole = refl; value = value-minus v h; reads = ap (λ (u : State). foldl step u s) minus-taken ∙ digits-taken r true h }
 
-  comma-taken : (f : Field) (w : ℤ) → f.digits ≡ true → value_of f.minus f.magnitude ≡ w → k < 3 → step (here f) 44 ≡ state (at n st (k + 1) y z w no_field) l
+  comma-taken : (f : Field) (w : ℤ) → has_digits f ≡ true → value_of f.minus (size_of f) ≡ w → k < 3 → step (here f) 44 ≡ state (at n st (k + 1) y z w no_field) l
   unfolding step within plain comma
   comma-taken f w d v h = rw (d, lt-ltb k 3 h, v)
 
@@ -79,11 +79,11 @@ module _ (n : ℕ) (st : Start) (l : List ℤ) (k : ℕ) (x y z : ℤ) where
 
 module _ (n : ℕ) (st : Start) (l : List ℤ) (x y z : ℤ) where
   -- the line end of a cell's line
-  cell-ended : (f : Field) (w : ℤ) → (n ≡ 1 → ⊥) → f.digits ≡ true → value_of f.minus f.magnitude ≡ w → is_below 2048 x ≡ true → sound (cell y z w) ≡ true → step (state (at n st 3 x y z f) l) 10 ≡ state (at (following n) st 0 x y z no_field) (put_cell l (nat_abs x) (cell y z w))
+  cell-ended : (f : Field) (w : ℤ) → (n ≡ 1 → ⊥) → has_digits f ≡ true → value_of f.minus (size_of f) ≡ w → is_below 2048 x ≡ true → sound (cell y z w) ≡ true → step (state (at n st 3 x y z f) l) 10 ≡ state (at (following n) st 0 x y z no_field) (put_cell l (nat_abs x) (cell y z w))
   unfolding step line_end cell_line next
   cell-ended f w e d v b s = rw (d, ne_eqb n 1 e, v, b, s)
 
-  start-ended : (f : Field) (w : ℤ) → f.digits ≡ true → value_of f.minus f.magnitude ≡ w → is_address (address_of y) ≡ true → is_address (address_of z) ≡ true → step (state (at 1 st 3 x y z f) l) 10 ≡ state (at 2 (start_of y z w) 0 x y z no_field) l
+  start-ended : (f : Field) (w : ℤ) → has_digits f ≡ true → value_of f.minus (size_of f) ≡ w → is_address (address_of y) ≡ true → is_address (address_of z) ≡ true → step (state (at 1 st 3 x y z f) l) 10 ≡ state (at 2 (start_of y z w) 0 x y z no_field) l
   unfolding step line_end start_line next following
   start-ended f w d v b s = rw (d, v, b, s)
 

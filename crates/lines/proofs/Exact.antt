@@ -18,7 +18,7 @@ use Rattle.encoding.proofs.Rule.{both}
 use Rattle.lines.specs.declared.Field.{Field}
 use Rattle.lines.specs.declared.Start.{Start}
 use Rattle.lines.specs.declared.Reader.{Reader}
-use Rattle.lines.specs.Reader.{no_field, opened, limit, value_of, letter, opening_byte, digit, comma, minus, plain, within, following, next, start_line, State, state, line_cell, cell_line, line_end, step, broken_line, empty_cells, read_text, broken}
+use Rattle.lines.specs.Reader.{no_field, has_digits, size_of, opened, limit, value_of, letter, opening_byte, digit, comma, minus, plain, within, following, next, start_line, State, state, line_cell, cell_line, line_end, step, broken_line, empty_cells, read_text, broken}
 use Rattle.lines.specs.Grammar.{Digits, Numeral, StartLine, CellLine, CellLines, Image, Front, Good, Breaks}
 use Rattle.lines.specs.Grammar as G
 use Rattle.decimal.specs.Decimal as D
@@ -58,8 +58,8 @@ within-grows r b =
     either P r.broken (omega arith)
     (either P (ltb r.opening 6) (either P (eqb (letter r.opening) b) (omega arith) (omega arith))
     (either P (ltb b 48)
-    (either P (eqb b 44) (either P (r.field.digits && ltb r.count 3) (omega arith) (omega arith)) (either P (eqb b 45) (either P (r.field.minus || r.field.digits) (omega arith) (omega arith)) (omega arith)))
-    (either P (ltb b 58) (either P (leb (r.field.magnitude * 10 + (b - 48)) (limit r.field.minus)) (omega arith) (omega arith)) (omega arith))))
+    (either P (eqb b 44) (either P (has_digits r.field && ltb r.count 3) (omega arith) (omega arith)) (either P (eqb b 45) (either P (r.field.minus || has_digits r.field) (omega arith) (omega arith)) (omega arith)))
+    (either P (ltb b 58) (either P (leb (size_of r.field * 10 + (b - 48)) (limit r.field.minus)) (omega arith) (omega arith)) (omega arith))))
 
 end-grows : (s : State) → PastS s.reader.line (line_end s)
 unfolding line_end start_line cell_line next
@@ -69,7 +69,7 @@ end-grows s =
     let P = PastS n in
     let g = following-grows n in
     either P r.broken (omega arith)
-    (either P (r.field.digits && eqb r.count 3)
+    (either P (has_digits r.field && eqb r.count 3)
     (either P (eqb n 1)
     (either (Past n) (is_address (address_of r.last.y) && is_address (address_of r.last.z)) g (omega arith))
     (either P (is_below 2048 r.last.x && sound (line_cell r)) g (omega arith)))
@@ -91,9 +91,9 @@ fold-grows (b ∷ t) s =
 -- a field so far
 data Partial : List ℕ → Field → Type 0 where
   empty : Partial [] no_field
-  sign : Partial (45 ∷ []) (field_of true false 0)
-  plus : {s : List ℕ} {v : ℕ} → Digits s v → v ≤ 9223372036854775807 → Partial s (field_of false true v)
-  neg : {s : List ℕ} {v : ℕ} → Digits s v → v ≤ 9223372036854775808 → Partial (45 ∷ s) (field_of true true v)
+  sign : Partial (45 ∷ []) (field_of true None)
+  plus : {s : List ℕ} {v : ℕ} → Digits s v → v ≤ 9223372036854775807 → Partial s (field_of false (Some v))
+  neg : {s : List ℕ} {v : ℕ} → Digits s v → v ≤ 9223372036854775808 → Partial (45 ∷ s) (field_of true (Some v))
 
 -- the whole fields so far, each with its comma, on the line after k lines: how many commas, and the last three
 data Commas : ℕ → ℕ → ℤ → ℤ → ℤ → List ℕ → Type 0 where
@@ -121,7 +121,7 @@ data Outcome : ℕ → Start → List ℤ → List ℕ → State → Type 0 wher
   writes : {k : ℕ} {st : Start} {m : List ℤ} {q : List ℕ} {n t f s : ℤ} → CellLine q n t f s → Outcome (suc k) st m q (state (at (following (suc k + 1)) st 0 n t f no_field) (put_cell m (nat_abs n) (cell t f s)))
 
 -- a field that has a digit is a number
-whole : {a : List ℕ} {f : Field} → Partial a f → f.digits ≡ true → Numeral a (value_of f.minus f.magnitude)
+whole : {a : List ℕ} {f : Field} → Partial a f → has_digits f ≡ true → Numeral a (value_of f.minus (size_of f))
 whole empty d = absurd (false≢true d)
 whole sign d = absurd (false≢true d)
 whole (plus {s} {v} r h) d = subst (Numeral s) (sym (value-plus v h)) (G.plus r h)
@@ -141,7 +141,7 @@ digit-more {s} {v} b r l h =
     let t : Digits (s ++ ((48 + (b - 48)) ∷ [])) (v * 10 + (b - 48)) = D.more {d = b - 48} r (omega arith) in
     subst (λ (d : ℕ). Digits (s ++ (d ∷ [])) (v * 10 + (b - 48))) (digit-is b l) t
 
-grown : {a : List ℕ} {f : Field} (b : ℕ) → Partial a f → 48 ≤ b → b < 58 → leb (f.magnitude * 10 + (b - 48)) (limit f.minus) ≡ true → Partial (a ++ (b ∷ [])) (field_of f.minus true (f.magnitude * 10 + (b - 48)))
+grown : {a : List ℕ} {f : Field} (b : ℕ) → Partial a f → 48 ≤ b → b < 58 → leb (size_of f * 10 + (b - 48)) (limit f.minus) ≡ true → Partial (a ++ (b ∷ [])) (field_of f.minus (Some (size_of f * 10 + (b - 48))))
 grown b empty l h e =
     let z : 0 * 10 + (b - 48) ≡ b - 48 = omega arith in
     rw z (plus (digit-one b l h) (omega arith))
@@ -158,7 +158,7 @@ to {k} {st} {m} {q} e o = subst (Outcome k st m q) (sym e) o
 on : {k : ℕ} {st : Start} {m : List ℤ} {q r : List ℕ} {u : State} → q ≡ r → Outcome k st m q u → Outcome k st m r u
 on {k} {st} {m} {q} {r} {u} e o = subst (λ (t : List ℕ). Outcome k st m t u) e o
 
-no_sign : {a : List ℕ} {f : Field} → Partial a f → (f.minus || f.digits) ≡ false → (a ≡ []) × (f ≡ no_field)
+no_sign : {a : List ℕ} {f : Field} → Partial a f → (f.minus || has_digits f) ≡ false → (a ≡ []) × (f ≡ no_field)
 no_sign empty e = (refl, refl)
 no_sign sign e = absurd (true≢false e)
 no_sign (plus r h) e = absurd (true≢false e)
@@ -175,19 +175,19 @@ module _ (n : ℕ) (st : Start) (m : List ℤ) (c : ℕ) (x y z : ℤ) (f : Fiel
   dead = state (broken r₀) m
 
   module _ (b : ℕ) (e : eqb b 10 ≡ false) where
-    low-comma : ltb b 48 ≡ true → eqb b 44 ≡ true → (f.digits && ltb c 3) ≡ true → step u₀ b ≡ state (at n st (c + 1) y z (value_of f.minus f.magnitude) no_field) m
+    low-comma : ltb b 48 ≡ true → eqb b 44 ≡ true → (has_digits f && ltb c 3) ≡ true → step u₀ b ≡ state (at n st (c + 1) y z (value_of f.minus (size_of f)) no_field) m
     unfolding step within plain comma
     low-comma h k t = rw (e, h, k, t)
 
-    low-comma-bad : ltb b 48 ≡ true → eqb b 44 ≡ true → (f.digits && ltb c 3) ≡ false → step u₀ b ≡ dead
+    low-comma-bad : ltb b 48 ≡ true → eqb b 44 ≡ true → (has_digits f && ltb c 3) ≡ false → step u₀ b ≡ dead
     unfolding step within plain comma
     low-comma-bad h k t = rw (e, h, k, t)
 
-    low-minus : ltb b 48 ≡ true → eqb b 44 ≡ false → eqb b 45 ≡ true → (f.minus || f.digits) ≡ false → step u₀ b ≡ state (at n st c x y z (field_of true false 0)) m
+    low-minus : ltb b 48 ≡ true → eqb b 44 ≡ false → eqb b 45 ≡ true → (f.minus || has_digits f) ≡ false → step u₀ b ≡ state (at n st c x y z (field_of true None)) m
     unfolding step within plain minus
     low-minus h k l t = rw (e, h, k, l, t)
 
-    low-minus-bad : ltb b 48 ≡ true → eqb b 44 ≡ false → eqb b 45 ≡ true → (f.minus || f.digits) ≡ true → step u₀ b ≡ dead
+    low-minus-bad : ltb b 48 ≡ true → eqb b 44 ≡ false → eqb b 45 ≡ true → (f.minus || has_digits f) ≡ true → step u₀ b ≡ dead
     unfolding step within plain minus
     low-minus-bad h k l t = rw (e, h, k, l, t)
 
@@ -195,11 +195,11 @@ module _ (n : ℕ) (st : Start) (m : List ℤ) (c : ℕ) (x y z : ℤ) (f : Fiel
     unfolding step within plain
     low-other h k l = rw (e, h, k, l)
 
-    high_digit : ltb b 48 ≡ false → ltb b 58 ≡ true → leb (f.magnitude * 10 + (b - 48)) (limit f.minus) ≡ true → step u₀ b ≡ state (at n st c x y z (field_of f.minus true (f.magnitude * 10 + (b - 48)))) m
+    high_digit : ltb b 48 ≡ false → ltb b 58 ≡ true → leb (size_of f * 10 + (b - 48)) (limit f.minus) ≡ true → step u₀ b ≡ state (at n st c x y z (field_of f.minus (Some (size_of f * 10 + (b - 48))))) m
     unfolding step within plain digit
     high_digit h k t = rw (e, h, k, t)
 
-    high-digit-bad : ltb b 48 ≡ false → ltb b 58 ≡ true → leb (f.magnitude * 10 + (b - 48)) (limit f.minus) ≡ false → step u₀ b ≡ dead
+    high-digit-bad : ltb b 48 ≡ false → ltb b 58 ≡ true → leb (size_of f * 10 + (b - 48)) (limit f.minus) ≡ false → step u₀ b ≡ dead
     unfolding step within plain digit
     high-digit-bad h k t = rw (e, h, k, t)
 
@@ -211,23 +211,23 @@ module _ (n : ℕ) (st : Start) (m : List ℤ) (c : ℕ) (x y z : ℤ) (f : Fiel
   unfolding step
   ends b e = rw e
 
-  ends-short : (f.digits && eqb c 3) ≡ false → line_end u₀ ≡ dead
+  ends-short : (has_digits f && eqb c 3) ≡ false → line_end u₀ ≡ dead
   unfolding line_end
   ends-short t = rw t
 
-  ends-first : (f.digits && eqb c 3) ≡ true → n ≡ 1 → (is_address (address_of y) && is_address (address_of z)) ≡ true → line_end u₀ ≡ state (at (following n) (start_of y z (value_of f.minus f.magnitude)) 0 x y z no_field) m
+  ends-first : (has_digits f && eqb c 3) ≡ true → n ≡ 1 → (is_address (address_of y) && is_address (address_of z)) ≡ true → line_end u₀ ≡ state (at (following n) (start_of y z (value_of f.minus (size_of f))) 0 x y z no_field) m
   unfolding line_end start_line next
   ends-first t e a = rw (t, eq-eqb n 1 e, a)
 
-  ends-first-bad : (f.digits && eqb c 3) ≡ true → n ≡ 1 → (is_address (address_of y) && is_address (address_of z)) ≡ false → line_end u₀ ≡ dead
+  ends-first-bad : (has_digits f && eqb c 3) ≡ true → n ≡ 1 → (is_address (address_of y) && is_address (address_of z)) ≡ false → line_end u₀ ≡ dead
   unfolding line_end start_line next
   ends-first-bad t e a = rw (t, eq-eqb n 1 e, a)
 
-  ends-later : (f.digits && eqb c 3) ≡ true → (n ≡ 1 → ⊥) → (is_below 2048 x && sound (cell y z (value_of f.minus f.magnitude))) ≡ true → line_end u₀ ≡ state (at (following n) st 0 x y z no_field) (put_cell m (nat_abs x) (cell y z (value_of f.minus f.magnitude)))
+  ends-later : (has_digits f && eqb c 3) ≡ true → (n ≡ 1 → ⊥) → (is_below 2048 x && sound (cell y z (value_of f.minus (size_of f)))) ≡ true → line_end u₀ ≡ state (at (following n) st 0 x y z no_field) (put_cell m (nat_abs x) (cell y z (value_of f.minus (size_of f))))
   unfolding line_end cell_line next
   ends-later t e a = rw (t, ne_eqb n 1 e, a)
 
-  ends-later-bad : (f.digits && eqb c 3) ≡ true → (n ≡ 1 → ⊥) → (is_below 2048 x && sound (cell y z (value_of f.minus f.magnitude))) ≡ false → line_end u₀ ≡ dead
+  ends-later-bad : (has_digits f && eqb c 3) ≡ true → (n ≡ 1 → ⊥) → (is_below 2048 x && sound (cell y z (value_of f.minus (size_of f)))) ≡ false → line_end u₀ ≡ dead
   unfolding line_end cell_line next
   ends-later-bad t e a = rw (t, ne_eqb n 1 e, a)
 
@@ -239,10 +239,10 @@ field_step {k} {c} {x} {y} {z} {s} {a} {f} st m b cs p e =
     (λ h.
     by_bool (eqb b 44)
     (λ i.
-    by_bool (f.digits && ltb c 3)
+    by_bool (has_digits f && ltb c 3)
     (λ t.
-    let d = both f.digits (ltb c 3) t in
-    let w = value_of f.minus f.magnitude in
+    let d = both (has_digits f) (ltb c 3) t in
+    let w = value_of f.minus (size_of f) in
     let b' : b ≡ 44 = eqb-true b 44 i in
     let o : Outcome k st m ((s ++ (a ++ (44 ∷ []))) ++ []) (state (at (k + 1) st (suc c) y z w no_field) m) = stays (fields (field cs (whole p d.0)) empty) in
     let o' : Outcome k st m ((s ++ a) ++ (44 ∷ [])) (state (at (k + 1) st (suc c) y z w no_field) m) = on (simp (append_assoc, append-nil)) o in
@@ -251,18 +251,18 @@ field_step {k} {c} {x} {y} {z} {s} {a} {f} st m b cs p e =
     (λ i.
     by_bool (eqb b 45)
     (λ j.
-    by_bool (f.minus || f.digits)
+    by_bool (f.minus || has_digits f)
     (λ t. to (low-minus-bad n st m c x y z f b e h i j t) (breaks refl refl))
     (λ t.
     let b' : b ≡ 45 = eqb-true b 45 j in
     let a' = (no_sign p t).0 in
-    let o : Outcome k st m (s ++ (45 ∷ [])) (state (at (k + 1) st c x y z (field_of true false 0)) m) = stays (fields cs sign) in
+    let o : Outcome k st m (s ++ (45 ∷ [])) (state (at (k + 1) st c x y z (field_of true None)) m) = stays (fields cs sign) in
     to (low-minus n st m c x y z f b e h i j t) (rw (b', a', append-nil) o)))
     (λ j. to (low-other n st m c x y z f b e h i j) (breaks refl refl))))
     (λ h.
     by_bool (ltb b 58)
     (λ i.
-    by_bool (leb (f.magnitude * 10 + (b - 48)) (limit f.minus))
+    by_bool (leb (size_of f * 10 + (b - 48)) (limit f.minus))
     (λ t.
     let g = grown b p (ltb-false b 48 h) (ltb-true b 58 i) t in
     to (high_digit n st m c x y z f b e h i t) (on (sym (append_assoc s a (b ∷ []))) (stays (fields cs g))))
@@ -270,7 +270,7 @@ field_step {k} {c} {x} {y} {z} {s} {a} {f} st m b cs p e =
     (λ i. to (high-other n st m c x y z f b e h i) (breaks refl refl)))
 
 -- the line end where three commas and a number stand
-ended : {k c : ℕ} {x y z : ℤ} {s a : List ℕ} {f : Field} (st : Start) (m : List ℤ) → Commas k c x y z s → Partial a f → f.digits ≡ true → c ≡ 3 → (f.digits && eqb c 3) ≡ true → Outcome k st m ((s ++ a) ++ (10 ∷ [])) (line_end (state (at (k + 1) st c x y z f) m))
+ended : {k c : ℕ} {x y z : ℤ} {s a : List ℕ} {f : Field} (st : Start) (m : List ℤ) → Commas k c x y z s → Partial a f → has_digits f ≡ true → c ≡ 3 → (has_digits f && eqb c 3) ≡ true → Outcome k st m ((s ++ a) ++ (10 ∷ [])) (line_end (state (at (k + 1) st c x y z f) m))
 ended st m first p d e t = absurd (omega arith)
 ended st m later p d e t = absurd (omega arith)
 ended st m (field first ra) p d e t = absurd (omega arith)
@@ -285,7 +285,7 @@ ended {f = f} st m (field {v = sp} {a = b} (field {v = pc} {a} first ra) rb) p d
     to (ends-first 1 st m 3 (pos 0) pc sp f t refl g) (on (simp append_assoc) (starts (G.start_line ra rb (whole p d) ok.0 ok.1))))
     (λ g. to (ends-first-bad 1 st m 3 (pos 0) pc sp f t refl g) (breaks refl refl))
 ended {f = f} st m (field {v = vc} (field {v = vb} (field {v = va} (later {k}) ra) rb) rc) p d e t =
-    let w = value_of f.minus f.magnitude in
+    let w = value_of f.minus (size_of f) in
     by_bool (is_below 2048 va && sound (cell vb vc w))
     (λ g.
     let ok = both (is_below 2048 va) (sound (cell vb vc w)) g in
@@ -297,8 +297,8 @@ line_step {k} {c} {x} {y} {z} {s} {a} {f} st m b cs p e =
     let n = k + 1 in
     let b' : b ≡ 10 = eqb-true b 10 e in
     let o : Outcome k st m ((s ++ a) ++ (10 ∷ [])) (line_end (state (at (k + 1) st c x y z f) m)) =
-    by_bool (f.digits && eqb c 3)
-    (λ t. let d = both f.digits (eqb c 3) t in ended st m cs p d.0 (eqb-true c 3 d.1) t)
+    by_bool (has_digits f && eqb c 3)
+    (λ t. let d = both (has_digits f) (eqb c 3) t in ended st m cs p d.0 (eqb-true c 3 d.1) t)
     (λ t. to (ends-short n st m c x y z f t) (breaks refl refl)) in
     to (ends n st m c x y z f b e) (subst (λ (j : ℕ). Outcome k st m ((s ++ a) ++ (j ∷ [])) (line_end (state (at (k + 1) st c x y z f) m))) (sym b') o)
 
@@ -448,14 +448,14 @@ unfolding broken_line
 read_whole s q c f (dead' {u = u} h l) e = absurd (let z = dead-line u.reader h in cc)
 read_whole s q c f (alive (opening i h)) e = absurd (cc)
 read_whole s q c nothing (alive (fields {c = n} {f = g} cs r)) e =
-    by_bool ((g.minus || g.digits) || ltb 0 n)
+    by_bool ((g.minus || has_digits g) || ltb 0 n)
     (λ t. absurd (let z : Some 1 ≡ None = rw t at e in cc))
-    (λ t. absurd (let o = first-has cs refl in let l = ltb-false 0 n (either-false (g.minus || g.digits) (ltb 0 n) t).1 in omega arith))
+    (λ t. absurd (let o = first-has cs refl in let l = ltb-false 0 n (either-false (g.minus || has_digits g) (ltb 0 n) t).1 in omega arith))
 read_whole s q c (lines {k} {p} {pc} {sp} {sr} {m = m} i) (alive (fields {c = n} {s = w} {a} {f = g} cs r)) e =
-    by_bool ((g.minus || g.digits) || ltb 0 n)
+    by_bool ((g.minus || has_digits g) || ltb 0 n)
     (λ t. absurd (let z : Some (k + 1) ≡ None = rw t at e in cc))
     (λ t.
-    let o = either-false (g.minus || g.digits) (ltb 0 n) t in
+    let o = either-false (g.minus || has_digits g) (ltb 0 n) t in
     let l = ltb-false 0 n o.1 in
     let w' : w ≡ [] = none_yet cs (omega arith) in
     let a' = (no_sign r o.0).0 in
@@ -506,7 +506,7 @@ none-good l v (lines {k = suc k} {pc = pc} {sp} {sr} {x} {y} {z} {m} i) h (G.lat
 answer-line : (r : Reader) (n : ℕ) → broken_line r ≡ Some n → r.line ≡ n
 unfolding broken_line
 answer-line r n e =
-    by_bool (r.broken || ((r.field.minus || r.field.digits) || ltb 0 r.count))
+    by_bool (r.broken || ((r.field.minus || has_digits r.field) || ltb 0 r.count))
     (λ t. let z : Some r.line ≡ Some n = rw t at e in cc)
     (λ t. absurd (let z : None ≡ Some n = rw t at e in cc))
 
@@ -602,10 +602,10 @@ unfolding broken_line
 open-line (dead' {u = u} h l) z = dead-line u.reader h ∙ ap Some l
 open-line (alive (opening i h)) z = refl
 open-line (alive (fields {k} {c = n} {s = w} {a} {f = g} cs r)) z =
-    by_bool ((g.minus || g.digits) || ltb 0 n)
+    by_bool ((g.minus || has_digits g) || ltb 0 n)
     (λ t. rw t)
     (λ t.
-    let o = either-false (g.minus || g.digits) (ltb 0 n) t in
+    let o = either-false (g.minus || has_digits g) (ltb 0 n) t in
     let l = ltb-false 0 n o.1 in
     let w' : w ≡ [] = none_yet cs (omega arith) in
     let a' = (no_sign r o.0).0 in

@@ -1,5 +1,5 @@
 -- The reader of numeric lines, as a fold over the bytes of the text.
-use Rattle.std.specs.Prelude.{true, false, cond, ◌&&◌, ◌||◌, ℕ, ◌+◌, ◌*◌, ◌-◌, ℤ, pos, nat_abs, get_or, replicate, ltb, leb, eqb, Option, Some, None}
+use Rattle.std.specs.Prelude.{Bool, true, false, cond, ◌&&◌, ◌||◌, ℕ, ◌+◌, ◌*◌, ◌-◌, ℤ, pos, nat_abs, get_or, replicate, ltb, leb, eqb, Option, Some, None, is_some, unwrap_or}
 use mathlib.Core.List.{List, [], ◌∷◌, ◌++◌, foldl}
 use Rattle.definition.specs.declared.Cell.{Cell}
 use Rattle.definition.specs.Word.{address_of}
@@ -14,7 +14,14 @@ pub use Rattle.lines.specs.declared.State.{State}
 
 -- Nothing of a field yet.
 abbrev pub no_field : Field
-no_field = record { minus = false; digits = false; magnitude = 0 }
+no_field = record { minus = false; magnitude = None }
+
+-- Has it a digit, and what its digits say: 0 where there are none.
+abbrev pub has_digits : Field → Bool
+has_digits f = is_some f.magnitude
+
+abbrev pub size_of : Field → ℕ
+size_of f = unwrap_or f.magnitude 0
 
 -- Before the first byte; the first line's first field is the word `start`.
 abbrev pub opened : Reader
@@ -46,19 +53,19 @@ opening_byte r b =
 -- "decimal digits [...], leading zeros allowed": the digit d.
 unfoldable pub digit : Reader → ℕ → Reader
 digit r d =
-    let v = r.field.magnitude * 10 + d in
-    cond (leb v (limit r.field.minus)) (with_field r (record { minus = r.field.minus; digits = true; magnitude = v })) (broken r)
+    let v = size_of r.field * 10 + d in
+    cond (leb v (limit r.field.minus)) (with_field r (record { minus = r.field.minus; magnitude = Some v })) (broken r)
 
 unfoldable pub comma : Reader → Reader
 comma r =
     cond
-    (r.field.digits && ltb r.count 3)
-    (record { line = r.line; broken = r.broken; opening = r.opening; count = r.count + 1; last = record { x = r.last.y; y = r.last.z; z = value_of r.field.minus r.field.magnitude }; field = no_field; start = r.start })
+    (has_digits r.field && ltb r.count 3)
+    (record { line = r.line; broken = r.broken; opening = r.opening; count = r.count + 1; last = record { x = r.last.y; y = r.last.z; z = value_of r.field.minus (size_of r.field) }; field = no_field; start = r.start })
     (broken r)
 
 -- "after an optional minus"
 unfoldable pub minus : Reader → Reader
-minus r = cond (r.field.minus || r.field.digits) (broken r) (with_field r (record { minus = true; digits = false; magnitude = 0 }))
+minus r = cond (r.field.minus || has_digits r.field) (broken r) (with_field r (record { minus = true; magnitude = None }))
 
 -- A byte after `start,` that is no line end: 44 is a comma, 45 a minus, 48 to 57 the digits.
 unfoldable pub plain : Reader → ℕ → Reader
@@ -89,7 +96,7 @@ unfoldable pub start_line : Reader → Reader
 start_line r =
     cond
     (is_address (address_of r.last.y) && is_address (address_of r.last.z))
-    (started (next r) r.last.y r.last.z (value_of r.field.minus r.field.magnitude))
+    (started (next r) r.last.y r.last.z (value_of r.field.minus (size_of r.field)))
     (broken r)
 
 -- The reader, and the cells that it wrote.
@@ -98,7 +105,7 @@ state r cells = record { reader = r; cells = cells }
 
 -- The cell that a whole line gives.
 abbrev pub line_cell : Reader → Cell
-line_cell r = cell r.last.y r.last.z (value_of r.field.minus r.field.magnitude)
+line_cell r = cell r.last.y r.last.z (value_of r.field.minus (size_of r.field))
 
 -- "a later line over an earlier one, addresses below 2,048", "each cell sound"
 unfoldable pub cell_line : State → State
@@ -117,7 +124,7 @@ line_end s =
     r.broken
     s
     (cond
-    (r.field.digits && eqb r.count 3)
+    (has_digits r.field && eqb r.count 3)
     (cond (eqb r.line 1) (state (start_line r) s.cells) (cell_line s))
     (state (broken r) s.cells))
 
@@ -126,7 +133,7 @@ step s b = cond (eqb b 10) (line_end s) (state (within s.reader b) s.cells)
 
 -- At the end of the text: none where it is an image, else the number of the line that breaks the form.
 unfoldable pub broken_line : Reader → Option ℕ
-broken_line r = cond (r.broken || ((r.field.minus || r.field.digits) || ltb 0 r.count)) (Some r.line) None
+broken_line r = cond (r.broken || ((r.field.minus || has_digits r.field) || ltb 0 r.count)) (Some r.line) None
 
 -- 2,048 empty cells.
 abbrev pub empty_cells : List ℤ

@@ -6,14 +6,14 @@ pub mod line;
 pub mod part;
 
 ghost use Rattle.std.specs.Prelude.{◌≡◌, ◌<◌, length};
-ghost use Rattle.lines.specs.Reader.{opened, empty_cells, value_of, broken, with_field, letter, opening_byte, digit, comma, minus, within, broken_line};
+ghost use Rattle.lines.specs.Reader.{size_of, opened, empty_cells, value_of, broken, with_field, letter, opening_byte, digit, comma, minus, within, broken_line};
 
-// The field that is being read: an optional minus and the digits so far.
+// The field that is being read: its minus, and what its digits say, if there are any. Not `recorded`'s `Number`: leading zeros and a minus 0 are allowed here, and a
+// line breaks at the digit that passes 64 bits.
 #[derive(Clone, Copy, Default)]
 pub struct Field {
     pub minus: bool,
-    pub digits: bool,
-    pub magnitude: u64,
+    pub magnitude: Option<u64>,
 }
 
 // The last three whole fields of the line.
@@ -32,7 +32,7 @@ pub struct Start {
     pub sr: i64,
 }
 
-// What is known of a text so far. Once broken, it stays at the line that broke.
+// What is known of a text so far. Once broken, it stays at the line that broke: a flag, since the reader is fed on and the line is asked for at the end.
 #[derive(Clone, Copy)]
 pub struct Reader {
     pub line: u64,
@@ -67,10 +67,11 @@ pub fn letter_at(i: u32) -> u8
 }
 
 impl Field {
+    // 0 where there are no digits.
     pub fn value(self) -> i64
-        ensures { result ≡ value_of self.minus self.magnitude }
+        ensures { result ≡ value_of self.minus (size_of self) }
     {
-        decimal::value(self.minus, self.magnitude)
+        decimal::value(self.minus, self.magnitude.unwrap_or(0))
     }
 }
 
@@ -114,12 +115,11 @@ impl Reader {
         ensures { self.new ≡ digit self.old d }
     {
         let minus = self.field.minus;
-        let magnitude = decimal::grown(self.field.magnitude, d);
+        let magnitude = decimal::grown(self.field.magnitude.unwrap_or(0), d);
         if decimal::is_within(minus, magnitude) {
             self.field = Field {
                 minus,
-                digits: true,
-                magnitude,
+                magnitude: Some(magnitude),
             };
         } else {
             self.break_line();
@@ -130,7 +130,7 @@ impl Reader {
     pub fn take_comma(&mut self)
         ensures { self.new ≡ comma self.old }
     {
-        if self.field.digits && self.count < 3 {
+        if self.field.magnitude.is_some() && self.count < 3 {
             self.count += 1;
             self.last = Fields {
                 x: self.last.y,
@@ -147,7 +147,7 @@ impl Reader {
     pub fn take_minus(&mut self)
         ensures { self.new ≡ minus self.old }
     {
-        if self.field.minus || self.field.digits {
+        if self.field.minus || self.field.magnitude.is_some() {
             self.break_line();
         } else {
             self.field = Field {
@@ -181,7 +181,7 @@ impl Reader {
     pub fn broken_line(&self) -> Option<u64>
         ensures { result ≡ broken_line self.now }
     {
-        let begun = self.field.minus || self.field.digits || 0 < self.count;
+        let begun = self.field.minus || self.field.magnitude.is_some() || 0 < self.count;
         if self.broken || begun {
             Some(self.line)
         } else {

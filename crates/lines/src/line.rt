@@ -74,7 +74,7 @@ impl State {
         if self.reader.broken {
             return;
         }
-        if !self.reader.field.digits || self.reader.count != 3 {
+        if self.reader.field.magnitude.is_none() || self.reader.count != 3 {
             return self.reader.break_line();
         }
         if self.reader.line == 1 {

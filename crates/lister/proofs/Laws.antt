@@ -1,5 +1,5 @@
 -- How the reads add up to a text. Assumes nothing.
-use Rattle.std.proofs.Common.{◌≡◌, refl, sym, ap, ◌∙◌, true, false, ℕ, ◌+◌, ◌-◌, ◌^◌, ◌<◌, ◌≤◌, List, [], ◌∷◌, ◌++◌, arith, length, take, drop, length-append, length-take, ◌*◌, ℤ, min, leb, leb-true, leb-false, Option, Some, None, eqb}
+use Rattle.std.proofs.Common.{◌≡◌, refl, sym, ap, ◌∙◌, Bool, true, false, ℕ, ◌+◌, ◌-◌, ◌^◌, ◌<◌, ◌≤◌, List, [], ◌∷◌, ◌++◌, arith, length, take, drop, length-append, length-take, ◌*◌, ℤ, min, leb, leb-true, leb-false, Option, Some, None, eqb}
 use mathlib.Core.List.{foldl, foldl-append}
 use Rattle.std.specs.Io.KnownBytes.{Consumes, IsAtEnd}
 use Rattle.std.proofs.KnownBytes.{Consumes-nil, Consumes-trans, Consumes-whole}
@@ -9,9 +9,12 @@ use Rattle.lines.proofs.Exact.{dead-stays}
 use Rattle.lister.specs.declared.seen.Seen.{Seen}
 use Rattle.lister.specs.Output.{names_cell, named_after, seen_step, unseen, seen_text, loss_name, leave_of, room, listing_text, output_of, output, SeesInput, ListsInput}
 use Rattle.definition.specs.declared.Counted.{Counted}
+use Rattle.definition.specs.declared.answers.Refusal.{Refusal}
+use Rattle.definition.specs.declared.answers.Refusal.TheVariants as R
+use Rattle.definition.specs.Answers.{number_of}
 use Rattle.definition.specs.Calls.{Called, called, passes}
 use Rattle.assembly.specs.Assemble.{counted}
-use Rattle.listing.specs.Call.{image_text, list_check, in_front, list_call}
+use Rattle.listing.specs.Call.{image_text, list_check, in_front, listed}
 use Rattle.report.specs.Text.{refusal_text}
 use Rattle.std.proofs.lemmas.Bool.{eqb-false}
 use Rattle.std.proofs.Math.Seq.{take_all, take-append_seam}
@@ -71,38 +74,33 @@ reads_used (Some xs) (Some ys) i u a h = record { text = a.text; taken = a.taken
 
 -- ---- the argument
 
-pub leave-one : (word : List ℕ) → word ≡ loss_name → 1 ≡ leave_of word
+-- the test of equality is the definition's
+pub by_equal : (word : List ℕ) (b : Bool) → (b ≡ true → word ≡ loss_name) → (word ≡ loss_name → b ≡ true) → b ≡ leave_of word
 unfolding leave_of same
-leave-one word e = rw e
-
-pub leave_none : (word : List ℕ) → (word ≡ loss_name → ⊥) → 0 ≡ leave_of word
-unfolding leave_of
-leave_none word n =
-    by_bool (same loss_name word)
-    (λ e. absurd (n (sym (same_true loss_name word e))))
-    (λ e. rw e)
+by_equal word true f g = rw (f refl) refl
+by_equal word false f g = by_bool (same loss_name word) (λ e. g (sym (same_true loss_name word e)) ∙ sym e) (λ e. sym e)
 
 -- ---- what is printed
 
-module _ (leave : ℕ) (image : List ℤ) (left : List ℕ) (r : Counted) (e : called r left ≡ list_call leave image room) where
-  record Listed : Type 0 where
+module _ (leave : Bool) (image : List ℤ) (left : List ℕ) (r : Counted) (e : called r left ≡ listed leave image room) where
+  record IsListed : Type 0 where
     answer : r ≡ counted 0 0 (length (image_text image))
     text : left ≡ in_front (image_text image) room
     shown : image_text image ≡ listing_text leave image
 
-  record Unlisted : Type 0 where
+  record IsRefused : Type 0 where
     refused : r.refusal ≡ 0 → ⊥
     shown : refusal_text r.refusal r.place ≡ listing_text leave image
 
-  listed : passes (list_check leave image room) ≡ true → Listed
-  unfolding list_call listing_text
-  listed p =
+  is-listed : passes (list_check leave image room) ≡ true → IsListed
+  unfolding listed listing_text
+  is-listed p =
       let c : called r left ≡ called (counted 0 0 (length (image_text image))) (in_front (image_text image) room) = e ∙ rw p in
       record { answer = ap (λ (x : Called Counted (List ℕ)). x.answer) c; text = ap (λ (x : Called Counted (List ℕ)). x.left) c; shown = rw p }
 
-  unlisted : passes (list_check leave image room) ≡ false → Unlisted
-  unfolding list_call listing_text
-  unlisted p =
+  is-refused : passes (list_check leave image room) ≡ false → IsRefused
+  unfolding listed listing_text
+  is-refused p =
       let d = list_check leave image room in
       let c : called r left ≡ called (counted d.refusal d.place 0) room = e ∙ rw p in
       let a = ap (λ (x : Called Counted (List ℕ)). x.answer) c in
@@ -111,17 +109,41 @@ module _ (leave : ℕ) (image : List ℤ) (left : List ℕ) (r : Counted) (e : c
   pub text-put : r.refusal ≡ 0 → (take r.count left ≡ listing_text leave image) × (r.count ≤ length left)
   text-put z =
       by_bool (passes (list_check leave image room))
-      (λ p. let l = listed p in
+      (λ p. let l = is-listed p in
       let t = image_text image in
       let n = ap (λ (x : Counted). x.count) l.answer in
       (ap (λ (k : ℕ). take k left) n ∙ ap (take (length t)) l.text ∙ take-append_seam t (drop (length t) room) ∙ l.shown, omega (arith, n, simp length-append at (ap length l.text))))
-      (λ p. absurd ((unlisted p).refused z))
+      (λ p. absurd ((is-refused p).refused z))
 
   pub refusal-put : (r.refusal ≡ 0 → ⊥) → refusal_text r.refusal r.place ≡ listing_text leave image
   refusal-put n =
       by_bool (passes (list_check leave image room))
-      (λ p. absurd (n (ap (λ (x : Counted). x.refusal) (listed p).answer)))
-      (λ p. (unlisted p).shown)
+      (λ p. absurd (n (ap (λ (x : Counted). x.refusal) (is-listed p).answer)))
+      (λ p. (is-refused p).shown)
+
+-- no refusal's number is 0
+pub numbered : (e : Refusal) → 1 ≤ number_of e
+numbered R.Cells = omega arith
+numbered R.Queue = omega arith
+numbered R.Output = omega arith
+numbered (R.Row i) = omega arith
+numbered (R.DamagedCell n) = omega arith
+numbered R.QueueRoom = omega arith
+numbered R.DrainBuffer = omega arith
+numbered R.Address = omega arith
+numbered R.Image = omega arith
+numbered R.Register = omega arith
+numbered R.Code = omega arith
+numbered (R.ImageLine n) = omega arith
+numbered (R.Form n) = omega arith
+numbered (R.Label n) = omega arith
+numbered (R.Value n) = omega arith
+numbered R.EmptyCell = omega arith
+numbered R.TextRoom = omega arith
+numbered (R.NumericLine n) = omega arith
+numbered R.Seats = omega arith
+numbered R.Journal = omega arith
+numbered R.NothingKept = omega arith
 
 -- no more cells are there than 2,048
 pub all_named : (n : ℕ) (cells : List ℤ) → length cells ≡ 6144 → take (3 * min n 2048) cells ≡ take (3 * n) cells
@@ -131,10 +153,10 @@ all_named n cells l =
     (λ e. let h = leb-false n 2048 e in let m : min n 2048 ≡ 2048 = omega arith in rw m (take_all 6144 cells (omega arith) ∙ sym (take_all (3 * n) cells (omega arith))))
 
 -- what is printed of what was seen
-module _ {u : Seen} {leave : ℕ} (word printed : List ℕ) (l : leave ≡ leave_of word) (p : printed ≡ output_of leave u) where
+module _ {u : Seen} {leave : Bool} (word printed : List ℕ) (l : leave ≡ leave_of word) (p : printed ≡ output_of leave u) where
   shown : (t : List ℕ) → u ≡ seen_text t → printed ≡ output word t
   unfolding output
-  shown t e = p ∙ ap (λ (k : ℕ). output_of k u) l ∙ ap (output_of (leave_of word)) e
+  shown t e = p ∙ ap (λ (k : Bool). output_of k u) l ∙ ap (output_of (leave_of word)) e
 
   pub lists : (known : Option (List ℕ)) → SeesInput known u → ListsInput known word printed
   lists None s = record { text = s.text; put = shown s.text s.taken; whole = tt }

@@ -45,15 +45,15 @@ abbrev pub loss_name : List ℕ
 loss_name = 108 ∷ 111 ∷ 115 ∷ 115 ∷ []
 
 -- "with leave only if its argument is `loss`"
-unfoldable pub leave_of : List ℕ → ℕ
-leave_of word = cond (same loss_name word) 1 0
+unfoldable pub leave_of : List ℕ → Bool
+leave_of word = same loss_name word
 
 -- Room for 2,048 lines of at most 80 bytes.
 abbrev pub room : List ℕ
 room = replicate 163840 0
 
 -- Card 3's text, or its refusal.
-unfoldable pub listing_text : ℕ → List ℤ → List ℕ
+unfoldable pub listing_text : Bool → List ℤ → List ℕ
 listing_text leave image =
     let d = list_check leave image room in
     cond (passes d) (image_text image) (refusal_text d.refusal d.place)
@@ -62,7 +62,7 @@ listing_text leave image =
 abbrev pub image_of : Seen → List ℤ
 image_of u = take (3 * u.named) u.state.cells
 
-unfoldable pub output_of : ℕ → Seen → List ℕ
+unfoldable pub output_of : Bool → Seen → List ℕ
 output_of leave u = option_map_or (refusal_text 12) (broken_line u.state.reader) (listing_text leave (image_of u))
 
 -- What is printed of a file, with this argument.

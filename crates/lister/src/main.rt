@@ -6,9 +6,11 @@
 mod seen;
 
 ghost use Rattle.std.specs.Prelude.{◌≡◌, ◌*◌, IfOk, take};
+ghost use Rattle.definition.specs.Answers.{number_of, place_of};
 ghost use Rattle.report.specs.Text.{refusal_text};
 ghost use Rattle.lister.specs.Output.{leave_of, listing_text, output_of, SeesInput, ListsInput};
 
+use definition::answers::Refusal;
 use printing::Text;
 use seen::Seen;
 use std::env::{Env, FillError};
@@ -39,33 +41,34 @@ fn read_all<R: Read>(from: &mut R) -> std::io::Result<Seen>
 }
 
 // "with leave only if its argument is `loss`"
-fn leave_of(word: &[u8]) -> u64
+fn leave_of(word: &[u8]) -> bool
     ensures { result ≡ leave_of word.now }
 {
-    if word == b"loss".as_slice() { 1 } else { 0 }
+    word == b"loss".as_slice()
 }
 
 #[tactic(auto, using(report::proofs::Laws::refusal_short))]
-fn refusal(number: u64, place: u64) -> Listing
-    ensures { result ≡ refusal_text number place }
+fn refusal(e: Refusal) -> Listing
+    ensures { result ≡ refusal_text (number_of e) (place_of e) }
 {
     let mut text = Text::new();
-    text.put(report::refusal(number, place).as_bytes());
+    text.put(report::refusal(e.number(), e.place()).as_bytes());
     text
 }
 
-// Card 3's text, or its refusal.
-fn list_image(image: &[i64], leave: u64) -> Listing
+// Card 3's text, or its refusal. The text is copied from a room of its own: a `Text` that lent its bytes would lend those behind its end, which its model hides.
+fn list_image(image: &[i64], leave: bool) -> Listing
     ensures { result ≡ listing_text leave image.now }
 {
     let mut room = [0u8; 163840];
-    let r = listing::list(image, &mut room, leave);
-    if r.refusal == 0 {
-        let mut text = Text::new();
-        text.put(&room[..r.count as usize]);
-        return text;
+    match listing::listed(image, &mut room, leave) {
+        Ok(bytes) => {
+            let mut text = Text::new();
+            text.put(&room[..bytes as usize]);
+            text
+        }
+        Err(e) => refusal(e),
     }
-    refusal(r.refusal, r.place)
 }
 
 // The front of the cells: there are no more than 2,048.
@@ -78,11 +81,11 @@ fn named_cells(cells: &[i64; 6144], named: u64) -> &[i64]
 
 // What is printed of what was read.
 #[tactic(auto, unfolding(crate::specs::Output::output_of))]
-fn list_seen(seen: &Seen, leave: u64) -> Listing
+fn list_seen(seen: &Seen, leave: bool) -> Listing
     ensures { result ≡ output_of leave seen.now }
 {
     if let Some(line) = seen.state.reader.broken_line() {
-        return refusal(12, line);
+        return refusal(Refusal::ImageLine(line));
     }
     list_image(named_cells(&seen.state.cells, seen.named), leave)
 }
@@ -106,7 +109,8 @@ fn print_input(rt: &HostRuntime, word: &[u8]) -> std::io::Result<()> {
     }
 }
 
-// One argument may give leave; a missing one, or more than one, does not.
+// One argument may give leave; a missing one, or more than one, does not. By rt.arg and no env::args, which allocates, and is an error where an
+// argument is no UTF-8: here such a word only gives no leave.
 fn main(rt: HostRuntime) -> std::io::Result<()> {
     let mut word = io::buffer();
     let mut second = io::buffer();

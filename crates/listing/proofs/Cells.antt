@@ -1,6 +1,6 @@
 -- An image gone through cell by cell. Assumes nothing.
 use mathlib.Core.Path.{◌≡◌, refl, sym, ap, ◌∙◌}
-use mathlib.Core.Bool.{true, false, ◌||◌}
+use mathlib.Core.Bool.{Bool, true, false, ◌||◌}
 use mathlib.Core.List.{List, [], ◌∷◌, ◌++◌}
 use Prim.Native.Nat.{ℕ, zero, suc, ◌+◌, ◌-◌, ◌*◌, ◌/◌, ◌%◌, ◌≤◌, ◌<◌}
 use native.Mathlib.Omega.{arith}
@@ -14,6 +14,7 @@ use Rattle.definition.specs.Memory.{cell_count, cell_at}
 use Rattle.definition.specs.Encoding.{sound}
 use Rattle.definition.specs.Calls.{lowest_damaged}
 use Rattle.encoding.proofs.Sound.{damaged-later, damaged-here}
+use Rattle.std.specs.List.{list_any, range_with_len}
 use Rattle.std.proofs.lemmas.Grind.{common_steps}
 use borrow.Rule.Slice.PartMut.{put_mid}
 use Rattle.std.proofs.lemmas.Slice.{take-put_mid, drop-put_mid}
@@ -70,6 +71,12 @@ empty_here l n h = rw (add-one, cells-next l n (omega arith)) refl
 pub empty_none : (l : List ℤ) (n : ℕ) → length l / 3 ≤ n → any_empty (drop n (image_cells l)) ≡ false
 unfolding any_empty
 empty_none l n h = rw (cells-done l n h) refl
+
+-- as `any` goes through the cells' numbers
+pub any-range : (l : List ℤ) (k n : ℕ) → n + k ≡ length l / 3 → list_any (λ i. eq_z (cell_at l i).tag (pos 0)) (range_with_len n k) ≡ any_empty (drop n (image_cells l))
+any-range l zero n h = sym (empty_none l n (omega arith))
+any-range l (suc k) n h =
+    ap (λ (b : Bool). eq_z (cell_at l n).tag (pos 0) || b) (any-range l k (n + 1) (omega arith)) ∙ sym (empty_here l n (omega arith))
 
 -- ---- the lines from cell n on
 

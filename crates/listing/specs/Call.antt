@@ -15,12 +15,12 @@ image_text image = listing (image_cells image)
 unfoldable pub is_image : List ℤ → Bool
 is_image image = eqb (length image % 3) 0 && eqb (lowest_damaged 0 image) (cell_count image)
 
--- "16 empty cell without leave": any number but 0 is leave.
-unfoldable pub has_leave : ℕ → List ℤ → Bool
-has_leave leave image = not (eqb leave 0) || not (any_empty (image_cells image))
+-- "16 empty cell without leave"
+unfoldable pub has_leave : Bool → List ℤ → Bool
+has_leave leave image = leave || not (any_empty (image_cells image))
 
 -- "17 text buffer too short; in that order after 15"
-unfoldable pub list_check : ℕ → List ℤ → List ℕ → Done
+unfoldable pub list_check : Bool → List ℤ → List ℕ → Done
 list_check leave image buffer =
     verdict (test 9 0 (is_image image) ∷ test 16 0 (has_leave leave image) ∷ test 17 0 (leb (length (image_text image)) (length buffer)) ∷ [])
 
@@ -29,10 +29,14 @@ abbrev pub in_front : List ℕ → List ℕ → List ℕ
 in_front t buffer = t ++ drop (length t) buffer
 
 -- "It answers the count of cells written, Card 3's of bytes, from the front".
-unfoldable pub list_call : ℕ → List ℤ → List ℕ → Called Counted (List ℕ)
-list_call leave image buffer =
+unfoldable pub listed : Bool → List ℤ → List ℕ → Called Counted (List ℕ)
+listed leave image buffer =
     let d = list_check leave image buffer in
     cond
     (passes d)
     (called (counted 0 0 (length (image_text image))) (in_front (image_text image) buffer))
     (called (counted d.refusal d.place 0) buffer)
+
+-- The call: any number but 0 is leave.
+unfoldable pub list_call : ℕ → List ℤ → List ℕ → Called Counted (List ℕ)
+list_call leave image buffer = listed (not (eqb leave 0)) image buffer

@@ -6,19 +6,14 @@ ghost use Rattle.listing.specs.Listing.{image_cells, any_empty};
 ghost use Rattle.listing.specs.Call.{image_text, in_front};
 ghost use Rattle.listing.specs.Pieces.{fitted};
 
-use super::line::line_of;
+use super::cell::line_of;
 use memory::get_cell;
 
 #[tactic(auto, using(crate::proofs::Cells::steps))]
 pub fn any_empty(image: &[i64]) -> bool
     ensures { result ≡ any_empty (image_cells image.now) }
 {
-    for n in 0..image.len() / 3 {
-        if get_cell(image, n).tag == 0 {
-            return true;
-        }
-    }
-    false
+    (0..image.len() / 3).any(|n| get_cell(image, n).tag == 0)
 }
 
 // How many bytes the lines take, if so many are there. A line is made and only counted, so that nothing is written where the text does not fit.
@@ -35,6 +30,7 @@ pub fn measure(image: &[i64], room: usize) -> Option<usize>
     Some(room - left)
 }
 
+// By places: with split_at_mut each round would hand the rest of the text on from the loan before.
 #[tactic(auto, using(crate::proofs::Cells::steps))]
 pub fn write(image: &[i64], text: &mut [u8])
     requires undamaged { lowest_damaged 0 image.now ≡ cell_count image.now }

@@ -13,7 +13,7 @@ use Rattle.definition.proofs.Accepted.{call-is, run_ends}
 use Rattle.row.specs.declared.State.{State}
 use Rattle.row.specs.Meaning.{row_state, machine_at}
 use Rattle.computer.specs.declared.Ended.{Ended}
-use Rattle.computer.specs.Meaning.{stop_of, run_of}
+use Rattle.computer.specs.Meaning.{run_of, ran_of}
 
 -- the row written anew looks at no list
 pub row_at : (l : List ℤ) (q o : List ℕ) (m : State) → row_of (machine_at [] [] [] m) ≡ row_of (machine_at l q o m)
@@ -33,9 +33,9 @@ module _ (l : List ℤ) (q o : List ℕ) (row : List ℤ) (h : Accepted (lent l 
     left-accepted = subst (λ (r : Run). AcceptedMachine r.left) (sym f) (run_ends b (machine_at l q o (row_state row)) run-accepted).left_in
 
     pub run-answer : (row' : List ℤ) → row' ≡ row_of (machine_at [] [] [] m)
-        → called (record { refusal = 0; place = 0; stop = (stop_of e.stop).0; detail = (stop_of e.stop).1; steps = e.steps; empty = e.empty }) (lent l' q o' row') ≡ run_call b (lent l q o row)
+        → called (ran_of e) (lent l' q o' row') ≡ run_call b (lent l q o row)
     unfolding ran
     run-answer row' g =
-        ap (λ (x : List ℤ). called (record { refusal = 0; place = 0; stop = (stop_of e.stop).0; detail = (stop_of e.stop).1; steps = e.steps; empty = e.empty }) (lent l' q o' x)) (g ∙ row_at l' q o' m)
+        ap (λ (x : List ℤ). called (ran_of e) (lent l' q o' x)) (g ∙ row_at l' q o' m)
         ∙ ap ran (f ∙ ap (M.run b) (state-is l q o row))
         ∙ sym (call-is b (lent l q o row) h)

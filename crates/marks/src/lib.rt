@@ -1,5 +1,6 @@
 // io.rs: the console's three marks, one record changed in place. `Marks` is definition's; enable, flag and pending are io.rs's
-// irq_on_ready, interrupt_flag and pending_irq. Each method of io.rs is a thin function that lends the record, over one by value.
+// irq_on_ready, interrupt_flag and pending_irq. Each method of io.rs is two: the form of this place is "a struct lent by &mut, thin functions
+// over by-value ones".
 #![tactic(auto, unfolding(definition::specs::Io::status, definition::specs::Io::read_status, definition::specs::Io::write_control, definition::specs::Io::delivered))]
 
 ghost use Rattle.std.specs.Prelude.{◌≡◌, false};

@@ -1,8 +1,10 @@
 // memory.rs: cells, each three numbers of a lent list. Every address is tested here or by a `requires`, so no caller can read past the end.
+// How many cells there are, and that none is damaged, is asked where it is needed, and no invariant holds it: stores and calls take any slice
+// that C lends.
 #![tactic(auto)]
 
-ghost use Rattle.std.specs.Prelude.{◌≡◌, ◌<◌, pos};
-ghost use Rattle.definition.specs.Memory.{cell_count, cell_at, put_cell, get, word_at, extract_word, as_address, extract_address, is_instruction, word as wordCell};
+ghost use Rattle.std.specs.Prelude.{◌≡◌, ◌+◌, ◌<◌, pos, length, get_or, set};
+ghost use Rattle.definition.specs.Memory.{cell, cell_count, cell_at, put_cell, get, extract_word, as_address, extract_address, is_instruction, word as wordCell};
 ghost use Rattle.memory.specs.Overlay.{overlay};
 
 use definition::{Cell, Word};
@@ -14,16 +16,33 @@ pub struct Write {
     pub v: Cell,
 }
 
+// The cell that the three numbers from place i on are: in the cells, in a row, in a record.
+pub fn cell_from(numbers: &[i64], i: usize) -> Cell
+    requires { i + 2 < length numbers.now }
+    ensures { result ≡ cell (get_or numbers.now i (pos 0)) (get_or numbers.now (i + 1) (pos 0)) (get_or numbers.now (i + 2) (pos 0)) }
+{
+    Cell {
+        tag: numbers[i],
+        first: numbers[i + 1],
+        second: numbers[i + 2],
+    }
+}
+
+pub fn cell_into(numbers: &mut [i64], i: usize, v: Cell)
+    requires { i + 2 < length numbers.old }
+    ensures { numbers.new ≡ set (set (set numbers.old i v.tag) (i + 1) v.first) (i + 2) v.second }
+{
+    numbers[i] = v.tag;
+    numbers[i + 1] = v.first;
+    numbers[i + 2] = v.second;
+}
+
+#[tactic(auto, unfolding(definition::specs::Memory::cell_at))]
 pub fn get_cell(cells: &[i64], n: usize) -> Cell
     requires { n < cell_count cells.now }
     ensures { result ≡ cell_at cells.now n }
 {
-    let i = 3 * n;
-    Cell {
-        tag: cells[i],
-        first: cells[i + 1],
-        second: cells[i + 2],
-    }
+    cell_from(cells, 3 * n)
 }
 
 // Memory::get
@@ -64,36 +83,25 @@ pub fn put_over(cells: &mut [i64], write: Option<Write>)
 }
 
 // Memory::set
+#[tactic(auto, unfolding(definition::specs::Memory::put_cell))]
 pub fn put_cell(cells: &mut [i64], n: usize, v: Cell)
     requires { n < cell_count cells.old }
     ensures { cells.new ≡ put_cell cells.old n v }
 {
-    let i = 3 * n;
-    let tag = v.tag;
-    let first = v.first;
-    let second = v.second;
-    cells[i] = tag;
-    cells[i + 1] = first;
-    cells[i + 2] = second;
-}
-
-pub fn word_from(tag: i64, first: i64) -> Word
-    ensures { result ≡ word_at tag first }
-{
-    if tag == 1 {
-        Word::Is(first)
-    } else if tag < 2 {
-        Word::Empty
-    } else {
-        Word::NotWord
-    }
+    cell_into(cells, 3 * n, v);
 }
 
 // Cell::extract_word, which tells an empty cell's word 0 from a word. A word is found by the first test.
 pub fn extract_word(v: Cell) -> Word
     ensures { result ≡ extract_word v }
 {
-    word_from(v.tag, v.first)
+    if v.tag == 1 {
+        Word::Is(v.first)
+    } else if v.tag < 2 {
+        Word::Empty
+    } else {
+        Word::NotWord
+    }
 }
 
 pub fn as_address(w: Word) -> Option<u32>
@@ -113,10 +121,11 @@ pub fn extract_address(v: Cell) -> Option<u32>
     as_address(extract_word(v))
 }
 
+#[tactic(auto, using(word::proofs::Laws::back), unfolding(definition::specs::Memory::is_instruction))]
 pub fn is_instruction(v: Cell) -> bool
     ensures { result ≡ is_instruction v }
 {
-    !word::lt(v.tag, 2)
+    2 <= v.tag
 }
 
 pub fn word_cell(w: i64) -> Cell
@@ -132,5 +141,5 @@ pub fn word_cell(w: i64) -> Cell
 pub fn address_cell(n: u32) -> Cell
     ensures { result ≡ wordCell (pos n) }
 {
-    word_cell(n as i64)
+    word_cell(i64::from(n))
 }

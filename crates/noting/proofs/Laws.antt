@@ -1,7 +1,12 @@
 -- What is found is what the definition's step writes.
-use Rattle.std.specs.Prelude.{◌≡◌, refl, ℕ, ◌+◌, ◌<◌, ◌≤◌, Bool, true, false, ◌&&◌, cond, List, [], ◌∷◌, ℤ, ltb, Ok, Err, Option, Some, None, MatchOption}
+use Rattle.std.specs.Prelude.{◌≡◌, refl, ℕ, ◌+◌, ◌<◌, ◌≤◌, Bool, true, false, ◌&&◌, cond, List, [], ◌∷◌, ℤ, ltb, Result, Ok, Err, Option, Some, None, MatchOption}
 use Rattle.std.proofs.Common.{◌∙◌, ap, arith}
 use Rattle.definition.specs.declared.Error.{Error}
+use Rattle.definition.specs.declared.Ending.{Ending}
+use Rattle.definition.specs.declared.Ending.TheVariants.{Exception, Stops}
+use Rattle.definition.specs.declared.Stop.{Stop}
+use Rattle.definition.specs.declared.Stop.TheVariants.{CyclesFull}
+use Rattle.definition.specs.Exception.{stop_number}
 use Rattle.definition.specs.declared.Instruction.{Instruction}
 use Rattle.definition.specs.Constants.{CYCLES-END}
 use Rattle.definition.specs.Word.{digit}
@@ -15,8 +20,6 @@ use Rattle.memory.specs.declared.Write.{Write}
 use Rattle.memory.specs.Overlay.{overlay}
 use Rattle.memory.proofs.Laws.{length_over}
 use Rattle.registers.specs.Meaning.{res_of}
-use Rattle.runtime.specs.declared.turn.Arrival.{Arrival}
-use Rattle.runtime.specs.declared.turn.Arrival.TheVariants.{Completes, Enters, Stops}
 use Rattle.runtime.specs.Meaning.{turn_of}
 use Rattle.noting.specs.declared.Was.{Was}
 use Rattle.noting.specs.Meaning.{held_of, own_of}
@@ -39,35 +42,35 @@ aimed_ok g c d i h = ap (λ (r : Res Instruction). wrote_there g c.cells (and_th
 pub begun_completed : (b w : Machine) → begun (M.limit b (M.settle (M.completes w))) ≡ ltb w.cycles CYCLES-END
 begun_completed b w =
     let e : w.cycles + 0 ≡ w.cycles = omega arith in
-    begun-is b false false 0 0 w (λ t. cc) ∙ ap (λ (n : ℕ). ltb n CYCLES-END) e
+    begun-is b false false 0 CyclesFull w (λ t. cc) ∙ ap (λ (n : ℕ). ltb n CYCLES-END) e
 
 pub begun_entered : (b w : Machine) (k : ℕ) → begun (M.limit b (M.settle (M.enters k w))) ≡ ltb (w.cycles + digit (has_handler w.core.cells)) CYCLES-END
-begun_entered b w k = begun-is b true false k 0 w (λ t. cc)
+begun_entered b w k = begun-is b true false k CyclesFull w (λ t. cc)
 
 stopped_not : (b : Machine) (o : M.Outcome) → begun o ≡ false → begun (M.limit b o) ≡ false
 unfolding M.limit begun begins
 stopped_not b o e = go (ltb (M.reached o).cycles CYCLES-END)
   where
-    go : (x : Bool) → begun (cond x o (M.stopped 7 0 b)) ≡ false
+    go : (x : Bool) → begun (cond x o (M.stopped CyclesFull b)) ≡ false
     go true = e
     go false = refl
 
-pub begun_stopped : (b w : Machine) (n d : ℕ) → begun (M.limit b (M.settle (M.stops n d w))) ≡ (begins n && ltb w.cycles CYCLES-END)
-begun_stopped b w n d = go (begins n) refl
+pub begun_stopped : (b w : Machine) (s : Stop) → begun (M.limit b (M.settle (M.stops s w))) ≡ (begins (stop_number s) && ltb w.cycles CYCLES-END)
+begun_stopped b w s = go (begins (stop_number s)) refl
   where
-    go : (x : Bool) → begins n ≡ x → begun (M.limit b (M.settle (M.stops n d w))) ≡ (x && ltb w.cycles CYCLES-END)
+    go : (x : Bool) → begins (stop_number s) ≡ x → begun (M.limit b (M.settle (M.stops s w))) ≡ (x && ltb w.cycles CYCLES-END)
     go true e =
         let z : w.cycles + 0 ≡ w.cycles = omega arith in
-        begun-is b false true n d w (λ t. e) ∙ ap (λ (n : ℕ). ltb n CYCLES-END) z
-    go false e = stopped_not b (M.settle (M.stops n d w)) (unfold M.settle begun in e)
+        begun-is b false true 0 s w (λ t. e) ∙ ap (λ (n : ℕ). ltb n CYCLES-END) z
+    go false e = stopped_not b (M.settle (M.stops s w)) (unfold M.settle begun in e)
 
 -- ---- the cells of entry
 
-pub no_entry : (a : Arrival) (m : Machine) → ((k : ℕ) → a ≡ Enters k → ⊥) → [] ≡ entry_writes (turn_of a m)
-unfolding entry_writes
-no_entry Completes m h = refl
-no_entry (Enters k) m h = absurd (h k refl)
-no_entry (Stops n d) m h = refl
+pub no_entry : (a : Result (Unit {0}) Ending) (m : Machine) → ((k : ℕ) → a ≡ Err (Exception k) → ⊥) → [] ≡ entry_writes (turn_of a m)
+unfolding M.ends entry_writes
+no_entry (Ok u) m h = refl
+no_entry (Err (Exception k)) m h = absurd (h k refl)
+no_entry (Err (Stops s)) m h = refl
 
 pub no_handler_cells : (k : ℕ) (m : Machine) → has_handler m.core.cells ≡ false → entry_writes (M.enters k m) ≡ []
 unfolding entry_writes

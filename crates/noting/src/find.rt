@@ -1,6 +1,7 @@
 // What a step is about to write, found before it is taken: where it arrives is the step's own, of crate runtime.
 ghost use Rattle.std.specs.Prelude.{◌≡◌, true, ℕ, ◌+◌, ◌<◌, ◌≤◌, ◌^◌, List, ℤ, MatchOption};
 ghost use Rattle.definition.specs.Constants.{CELLS-MOST};
+ghost use Rattle.definition.specs.Exception.{stop_number};
 ghost use Rattle.definition.specs.Memory.{cell_count, cell_at};
 ghost use Rattle.definition.specs.Encoding.{sound};
 ghost use Rattle.definition.specs.Exec.{core};
@@ -10,20 +11,16 @@ ghost use Rattle.memory.specs.Overlay.{overlay};
 ghost use Rattle.row.specs.Meaning.{machine_at};
 ghost use Rattle.runtime.specs.Meaning.{guard_of, effects_at, turn_of};
 ghost use Rattle.journal.specs.Writes.{held_at, instruction_writes, entry_writes, step_writes};
-ghost use Rattle.journal.specs.Journal.{begun};
+ghost use Rattle.journal.specs.Journal.{begins, begun};
 ghost use Rattle.noting.specs.Meaning.{held_of, own_of, entry_of, helds_of};
 
 use super::{Entry, Noted, Was};
+use definition::{Ending, Stop};
 use memory::Write;
 use registers::Plan;
 use row::State;
-use runtime::turn::{Arrival, Turn};
-
-const OUTPUT_FULL: u32 = 6;
-
-const CYCLES_FULL: u32 = 7;
-
-const CYCLES_END: u64 = 0x8000_0000_0000_0000;
+use runtime::settle::CYCLES_END;
+use runtime::turn::Turn;
 
 // What the cell at n holds once the write that waits is made, if there is such a cell.
 #[tactic(auto, using(crate::proofs::Laws::over_some, crate::proofs::Laws::over_none))]
@@ -53,12 +50,12 @@ fn own_cell(cells: &[i64], m: &State) -> Option<Was>
 }
 
 // "pc, sr and code go to cells 100, 101, 102", after the instruction's own write.
-#[tactic(auto, using(crate::proofs::Laws::no_entry, crate::proofs::Laws::no_handler_cells, crate::proofs::Laws::handler_cells))]
+#[tactic(auto, using(crate::proofs::Laws::no_entry, crate::proofs::Laws::no_handler_cells, crate::proofs::Laws::handler_cells), unfolding(definition::specs::Runtime::ends))]
 fn entry_cells(cells: &[i64], turn: &Turn) -> Option<Entry>
     requires { 256 ≤ cell_count cells.now }
     ensures { (q o : List ℕ) (m : State) → entry_of result ≡ entry_writes (turn_of turn.now.arrival (effects_at cells.now q o m turn.now.effects)) }
 {
-    let Arrival::Enters(_) = turn.arrival else {
+    let Err(Ending::Exception(_)) = turn.arrival else {
         return None;
     };
     let write = turn.effects.plan.write;
@@ -73,7 +70,15 @@ fn entry_cells(cells: &[i64], turn: &Turn) -> Option<Entry>
 }
 
 // "stops 6 and 7 begin no step"
-#[tactic(auto, using(crate::proofs::Laws::begun_completed, crate::proofs::Laws::begun_entered, crate::proofs::Laws::begun_stopped), unfolding(journal::specs::Journal::begins))]
+#[tactic(auto, unfolding(journal::specs::Journal::begins))]
+fn begins(stop: Stop) -> bool
+    ensures { result ≡ begins (stop_number stop) }
+{
+    !matches!(stop, Stop::OutputFull | Stop::CyclesFull)
+}
+
+// Is the step begun: does it neither stop with 6 or 7, nor pass the last cycle.
+#[tactic(auto, using(crate::proofs::Laws::begun_completed, crate::proofs::Laws::begun_entered, crate::proofs::Laws::begun_stopped), unfolding(definition::specs::Runtime::ends))]
 fn is_begun(cells: &[i64], turn: &Turn) -> bool
     requires least { 256 ≤ cell_count cells.now }
     requires cycles { turn.now.effects.cycles + 1 < 2 ^ 64 }
@@ -81,14 +86,12 @@ fn is_begun(cells: &[i64], turn: &Turn) -> bool
 {
     let cycles = turn.effects.cycles;
     match turn.arrival {
-        Arrival::Completes => cycles < CYCLES_END,
-        Arrival::Enters(_) => {
+        Ok(()) => cycles < CYCLES_END,
+        Err(Ending::Exception(_)) => {
             let entry = u64::from(runtime::entry::has_handler(cells, turn.effects.plan.write));
             cycles + entry < CYCLES_END
         }
-        Arrival::Stops(number, _) => {
-            number != OUTPUT_FULL && number != CYCLES_FULL && cycles < CYCLES_END
-        }
+        Err(Ending::Stops(stop)) => begins(stop) && cycles < CYCLES_END,
     }
 }
 

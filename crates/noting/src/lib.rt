@@ -13,6 +13,7 @@ pub mod find;
 pub mod keep;
 
 // A cell about to be written: its address, and what it holds.
+// Not memory's Write, though of its shape: that is what a step puts there, this what it finds.
 #[derive(Clone, Copy)]
 pub struct Was {
     pub address: u32,
@@ -28,6 +29,7 @@ pub struct Entry {
 }
 
 // Is the step begun, and what it writes: the instruction's cell, if it writes one, and those of entry, if a handler is entered.
+// begun is beside them, and no Option: what a step writes is defined of each step, begun or not (step_writes).
 #[derive(Clone, Copy)]
 pub struct Noted {
     pub begun: bool,
@@ -41,7 +43,7 @@ fn put_was(part: &mut [i64], i: usize, x: Was)
     ensures { part.new ≡ sets part.old i (pos x.address ∷ x.cell.tag ∷ x.cell.first ∷ x.cell.second ∷ []) }
 {
     row::put(part, i, x.address as i64);
-    row::put_cell(part, i + 1, x.cell);
+    memory::cell_into(part, i + 1, x.cell);
 }
 
 fn clear(part: &mut [i64])
@@ -67,15 +69,11 @@ fn write_cells(part: &mut [i64], w: &Noted)
     requires { length part.old ≡ 17 }
     ensures { part.new ≡ behind_row (helds_of w.now) }
 {
-    match w.own {
-        Some(own) => match w.entry {
-            Some(e) => put_cells(part, &[own, e.pc, e.sr, e.code]),
-            None => put_cells(part, &[own]),
-        },
-        None => match w.entry {
-            Some(e) => put_cells(part, &[e.pc, e.sr, e.code]),
-            None => put_cells(part, &[]),
-        },
+    match (w.own, w.entry) {
+        (Some(own), Some(e)) => put_cells(part, &[own, e.pc, e.sr, e.code]),
+        (Some(own), None) => put_cells(part, &[own]),
+        (None, Some(e)) => put_cells(part, &[e.pc, e.sr, e.code]),
+        (None, None) => put_cells(part, &[]),
     }
 }
 

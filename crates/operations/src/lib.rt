@@ -8,6 +8,7 @@ ghost use Rattle.definition.specs.Instructions.{sign_flags, put_result, put_wrap
 ghost use Rattle.registers.specs.Meaning.{settled};
 
 use definition::{Error, Reg, Registers, Wrapped};
+use registers::Flag;
 
 pub mod words;
 
@@ -16,8 +17,8 @@ pub mod words;
 pub fn sign_flags(s: &mut Registers, w: i64)
     ensures { s.new ≡ sign_flags w s.old }
 {
-    registers::put_flag(s, 1, w == 0);
-    registers::put_flag(s, 2, w < 0);
+    registers::put_flag(s, Flag::Zero, w == 0);
+    registers::put_flag(s, Flag::Negative, w < 0);
 }
 
 // "and, or, xor, not, div, shl and shr set Z and N and leave V."
@@ -36,7 +37,7 @@ pub fn put_wrapped(s: &mut Registers, r: Reg, x: Wrapped) -> Result<(), Error>
     ensures { (result, s.new) ≡ settled s.old (put_wrapped r x s.old) }
 {
     registers::put_reg(s, r, memory::word_cell(x.value))?;
-    registers::put_flag(s, 3, x.overflow);
+    registers::put_flag(s, Flag::Overflow, x.overflow);
     sign_flags(s, x.value);
     Ok(())
 }
@@ -46,8 +47,8 @@ pub fn put_wrapped(s: &mut Registers, r: Reg, x: Wrapped) -> Result<(), Error>
 pub fn put_compared(s: &mut Registers, v: i64, w: i64) -> Result<(), Error>
     ensures { (result, s.new) ≡ settled s.old (put_compared v w s.old) }
 {
-    registers::put_flag(s, 1, v == w);
-    registers::put_flag(s, 2, v < w);
+    registers::put_flag(s, Flag::Zero, v == w);
+    registers::put_flag(s, Flag::Negative, v < w);
     Ok(())
 }
 
@@ -60,9 +61,9 @@ pub fn put_quotient(s: &mut Registers, r: Reg, x: Option<i64>) -> Result<(), Err
     put_result(s, r, w)
 }
 
-// The amount of a shift: "Shift amounts are 0 to 63; others raise code 2."
+// The amount of a shift: "Shift amounts are 0 to 63; others raise code 2." The test is the definition's own, and the cast behind it fits.
 #[tactic(auto, using(word::proofs::Laws::back), unfolding(definition::specs::Word::is_shift))]
-fn amount(v: i64) -> Result<u32, Error>
+pub fn amount(v: i64) -> Result<u32, Error>
     ensures value { result ≡ cond (is_shift v) (Ok (nat_abs v)) (Err InvalidInstruction) }
     ensures below { IfOk result (λ n. n < 64) }
 {
@@ -71,20 +72,4 @@ fn amount(v: i64) -> Result<u32, Error>
     } else {
         Err(Error::InvalidInstruction)
     }
-}
-
-#[tactic(auto, using(word::proofs::Laws::back), unfolding(definition::specs::Instructions::put_shifted))]
-pub fn put_shl(s: &mut Registers, r: Reg, v: i64, w: i64) -> Result<(), Error>
-    ensures { (result, s.new) ≡ settled s.old (put_shifted shl_w r v w s.old) }
-{
-    let n = amount(v)?;
-    put_result(s, r, word::shl(w, n))
-}
-
-#[tactic(auto, using(word::proofs::Laws::back), unfolding(definition::specs::Instructions::put_shifted))]
-pub fn put_shr(s: &mut Registers, r: Reg, v: i64, w: i64) -> Result<(), Error>
-    ensures { (result, s.new) ≡ settled s.old (put_shifted shr_w r v w s.old) }
-{
-    let n = amount(v)?;
-    put_result(s, r, word::shr(w, n))
 }

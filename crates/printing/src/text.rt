@@ -1,5 +1,5 @@
 // A text of fixed room. The kit's `ArrayString` holds UTF-8 alone, which a file's bytes need not be, and its `ArrayVec` has no append of a slice that
-// cannot fail.
+// cannot fail. What is put here has no `Display`: `fmt` answers a `Result`, and a report or a listing that fits cannot fail.
 ghost use Rattle.std.specs.Prelude.{◌≡◌, [], ◌∷◌, ◌++◌, ◌+◌, ◌<◌, ◌≤◌, length};
 ghost use Rattle.printing.specs.Decimal.{decimal, numeral};
 

@@ -1,5 +1,5 @@
 -- What differs first, and that a comparison finds nothing exactly where the two are the same.
-use Rattle.std.specs.Prelude.{◌≡◌, Bool, cond, ℕ, eqb, nat_eq, Option, Some, None, Result, Ok, Err}
+use Rattle.std.specs.Prelude.{◌≡◌, Bool, cond, ℕ, eqb, nat_eq, Result, Ok, Err}
 use Rattle.std.specs.Ordering.{int_eq}
 use lib.Pointwise.{pointwise}
 use Rattle.definition.specs.declared.Done.{Done}
@@ -18,14 +18,9 @@ Verdict = Result (Unit {0}) Fault
 abbrev pub Exactly : Type 0 → Verdict → Type 0
 Exactly Same r = (r ≡ Ok tt → Same) × (Same → r ≡ Ok tt)
 
--- The fault, unless the two are the same; then what is found after.
+-- The fault, unless this holds; then what is found after.
 abbrev pub unless : Bool → Fault → Verdict → Verdict
-unless same f after = cond same after (Err f)
-
--- What differs, if something does.
-abbrev pub fault_of : Verdict → Option Fault
-fault_of (Ok x) = None
-fault_of (Err f) = Some f
+unless holds f after = cond holds after (Err f)
 
 -- refusal, its place, stop, detail, count and empty reads
 abbrev pub answer : ℕ → ℕ → ℕ → ℕ → ℕ → ℕ → Answer

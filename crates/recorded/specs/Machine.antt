@@ -1,13 +1,15 @@
 -- A machine of the replay: which of its parts a line names, and what an opened case leaves of it.
-use Rattle.std.specs.Prelude.{Bool, List, ℕ, ℤ, pos, length, replicate}
+use Rattle.std.specs.Prelude.{List, ◌++◌, ℕ, ℤ, pos, length, replicate, take, drop}
 use Rattle.definition.specs.Constants.{ROW}
 use Rattle.definition.specs.Word.{address_of}
+use Rattle.definition.specs.Memory.{cell}
 use Rattle.definition.specs.Calls.{Lent, lent}
 use Rattle.recorded.specs.declared.length.Lengths.{Lengths}
 use Rattle.recorded.specs.declared.machine.Machine.{Machine}
 use Rattle.recorded.specs.declared.machine.Part.{Part}
 use Rattle.recorded.specs.declared.machine.Part.TheVariants as P
 use Rattle.recorded.specs.declared.reader.Line.{Line}
+use Rattle.recorded.specs.Compare.{Verdict}
 use Rattle.recorded.specs.Place.{cell_put, number_put, byte_put}
 
 abbrev pub no_machine : Machine
@@ -36,13 +38,13 @@ with_row m l = record { cells = m.cells; queue = m.queue; output = m.output; row
 abbrev pub with_buffer : Machine → List ℕ → Machine
 with_buffer m l = record { cells = m.cells; queue = m.queue; output = m.output; row = m.row; buffer = l }
 
--- The line's byte, one of n.
-abbrev pub byte_of : Line → ℕ → List ℕ → Bool × List ℕ
-byte_of l n = byte_put (address_of l.a) (address_of l.b) n
+-- The line's byte put into the n that are in use, which are the front; the end stays as it was.
+abbrev pub byte_of : Line → ℕ → List ℕ → Verdict × List ℕ
+byte_of l n bytes = let x = byte_put (address_of l.a) (address_of l.b) (take n bytes) in (x.0, x.1 ++ drop n bytes)
 
--- The line's numbers put into this part, and whether there is such a place.
-abbrev pub put_in : Part → Line → Lengths → Machine → Bool × Machine
-put_in P.Cell l n m = let x = cell_put (address_of l.a) l.b l.c l.d m.cells in (x.0, with_cells m x.1)
+-- The line's numbers put into this part, if there is such a place.
+abbrev pub put_in : Part → Line → Lengths → Machine → Verdict × Machine
+put_in P.Cell l n m = let x = cell_put (address_of l.a) (cell l.b l.c l.d) m.cells in (x.0, with_cells m x.1)
 put_in P.Number l n m = let x = number_put (address_of l.a) l.b m.row in (x.0, with_row m x.1)
 put_in P.Queue l n m = let x = byte_of l n.queue m.queue in (x.0, with_queue m x.1)
 put_in P.Output l n m = let x = byte_of l n.output m.output in (x.0, with_output m x.1)

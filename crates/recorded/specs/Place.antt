@@ -1,19 +1,27 @@
--- What a line's numbers make of the list that they are put into, and whether there is such a place.
-use Rattle.std.specs.Prelude.{Bool, true, false, cond, List, ℕ, ◌+◌, ◌-◌, ◌*◌, ltb, ℤ, set, None, Option, Some}
+-- What a line's numbers make of the list that they are put into, and what is wrong where there is no such place.
+use Rattle.std.specs.Prelude.{cond, List, ℕ, ◌-◌, ltb, ℤ, length, set, None, Option, Some, Ok, Err}
 use Rattle.definition.specs.Constants.{ROW}
+use Rattle.definition.specs.declared.Cell.{Cell}
+use Rattle.definition.specs.Memory.{put_cell}
+use Rattle.recorded.specs.declared.compare.Fault.TheVariants as F
+use Rattle.recorded.specs.Compare.{Verdict}
 
--- address, tag, first, second
-abbrev pub cell_put : Option ℕ → ℤ → ℤ → ℤ → List ℤ → Bool × List ℤ
-cell_put None t x y l = (false, l)
-cell_put (Some n) t x y l = cond (ltb n 10000) (true, set (set (set l (3 * n) t) (3 * n + 1) x) (3 * n + 2) y) (false, l)
+-- The list as it was, since a number is out of range.
+abbrev pub not_put : {A : Type 0} → List A → Verdict × List A
+not_put l = (Err F.Number, l)
+
+-- address and cell
+abbrev pub cell_put : Option ℕ → Cell → List ℤ → Verdict × List ℤ
+cell_put None v l = not_put l
+cell_put (Some n) v l = cond (ltb n 10000) (Ok tt, put_cell l n v) (not_put l)
 
 -- place, 1 to 20, and number
-abbrev pub number_put : Option ℕ → ℤ → List ℤ → Bool × List ℤ
-number_put None z l = (false, l)
-number_put (Some n) z l = cond (ltb n 1) (false, l) (cond (ltb ROW n) (false, l) (true, set l (n - 1) z))
+abbrev pub number_put : Option ℕ → ℤ → List ℤ → Verdict × List ℤ
+number_put None z l = not_put l
+number_put (Some n) z l = cond (ltb n 1) (not_put l) (cond (ltb ROW n) (not_put l) (Ok tt, set l (n - 1) z))
 
--- index, from 0, below m, and byte
-abbrev pub byte_put : Option ℕ → Option ℕ → ℕ → List ℕ → Bool × List ℕ
-byte_put None b m l = (false, l)
-byte_put (Some n) None m l = (false, l)
-byte_put (Some n) (Some b) m l = cond (ltb n m) (cond (ltb b 256) (true, set l n b) (false, l)) (false, l)
+-- index, from 0, and byte
+abbrev pub byte_put : Option ℕ → Option ℕ → List ℕ → Verdict × List ℕ
+byte_put None b l = not_put l
+byte_put (Some n) None l = not_put l
+byte_put (Some n) (Some b) l = cond (ltb n (length l)) (cond (ltb b 256) (Ok tt, set l n b) (not_put l)) (not_put l)

@@ -1,7 +1,8 @@
 // What a call answered, against the list.
-ghost use Rattle.std.specs.Prelude.{◌≡◌, true};
-ghost use Rattle.recorded.specs.Compare.{Exactly, unless, answer_fault, of_done, of_drained, of_raised, of_ran};
+ghost use Rattle.std.specs.Prelude.{◌≡◌};
+ghost use Rattle.recorded.specs.Compare.{Exactly, answer_fault, of_done, of_drained, of_raised, of_ran};
 
+use definition::answers::check;
 use definition::{Done, Drained, Raised, Ran};
 
 // What is not as the list says.
@@ -39,13 +40,6 @@ pub struct Answer {
     pub empty: u64,
 }
 
-// The fault, unless what it speaks of is the same.
-pub(crate) fn same(is_same: bool, fault: Fault) -> Result<(), Fault>
-    ensures { result ≡ unless is_same fault (Ok tt) }
-{
-    if is_same { Ok(()) } else { Err(fault) }
-}
-
 impl Answer {
     // What differs first from the answer that is due.
     #[tactic(auto, unfolding(crate::specs::Compare::answer_fault))]
@@ -53,16 +47,16 @@ impl Answer {
         ensures exactly { Exactly (self ≡ due) result }
         ensures value { result ≡ answer_fault self due }
     {
-        same(self.refusal == due.refusal, Fault::Refusal)?;
-        same(self.place == due.place, Fault::Place)?;
-        same(self.stop == due.stop, Fault::Stop)?;
-        same(self.detail == due.detail, Fault::Detail)?;
-        same(self.count == due.count, Fault::Count)?;
-        same(self.empty == due.empty, Fault::Empty)
+        check(self.refusal == due.refusal, Fault::Refusal)?;
+        check(self.place == due.place, Fault::Place)?;
+        check(self.stop == due.stop, Fault::Stop)?;
+        check(self.detail == due.detail, Fault::Detail)?;
+        check(self.count == due.count, Fault::Count)?;
+        check(self.empty == due.empty, Fault::Empty)
     }
 }
 
-// What each call answers.
+// What each call answers. C has a struct for each, so each names the numbers that it has.
 impl From<Done> for Answer {
     ghost from_gives = { λ d a. a ≡ of_done d };
 

@@ -6,7 +6,7 @@ use crate::compare::Fault;
 use std::marker::Model;
 
 // How much of an array is in use: at most MOST. To a clause it is the number.
-#[derive(Clone, Copy, PartialEq, Eq)]
+#[derive(Clone, Copy, Default, PartialEq, Eq)]
 pub struct Length<const MOST: usize> {
     value: usize,
 }
@@ -62,15 +62,7 @@ impl<const MOST: usize> TryFrom<i64> for Length<MOST> {
     }
 }
 
-impl<const MOST: usize> Default for Length<MOST> {
-    ghost is_default = { λ n. n ≡ 0 };
-
-    fn default() -> Self {
-        Length { value: 0 }
-    }
-}
-
-// The case's queue and output record, the bytes to deliver and the drain buffer: how long each is.
+// The case's queue and output record, the bytes to deliver and the drain buffer: how long each is. Apart from the arrays: both machines have the same.
 #[derive(Clone, Copy, Default, PartialEq, Eq)]
 pub struct Lengths {
     pub queue: Length<256>,

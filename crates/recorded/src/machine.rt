@@ -3,10 +3,12 @@ ghost use Rattle.std.specs.Prelude.{◌≡◌};
 ghost use Rattle.recorded.specs.Compare.{Exactly, left_fault};
 ghost use Rattle.recorded.specs.Machine.{no_machine, put_in, emptied};
 
-use crate::compare::{Fault, same};
+use crate::compare::Fault;
 use crate::length::Lengths;
 use crate::place::{put_byte, put_cell, put_number};
 use crate::reader::Line;
+use definition::Cell;
+use definition::answers::check;
 use definition::places::ROW;
 
 // The cells, the queue, the output record, the row and the drain buffer: some 250 KB, so it is lent, and only `new` answers one.
@@ -43,16 +45,23 @@ impl Machine {
         }
     }
 
-    // The line's numbers put into this part; whether there is such a place.
-    pub fn put(&mut self, part: Part, l: Line, lengths: Lengths) -> bool
+    // The line's numbers put into this part, if there is such a place.
+    pub fn put(&mut self, part: Part, l: Line, lengths: Lengths) -> Result<(), Fault>
         ensures { (result, self.new) ≡ put_in part l lengths self.old }
     {
         match part {
-            Part::Cell => put_cell(&mut self.cells, l.a, l.b, l.c, l.d),
+            Part::Cell => {
+                let cell = Cell {
+                    tag: l.b,
+                    first: l.c,
+                    second: l.d,
+                };
+                put_cell(&mut self.cells, l.a, cell)
+            }
             Part::Number => put_number(&mut self.row, l.a, l.b),
-            Part::Queue => put_byte(&mut self.queue, lengths.queue.get(), l.a, l.b),
-            Part::Output => put_byte(&mut self.output, lengths.output.get(), l.a, l.b),
-            Part::Buffer => put_byte(&mut self.buffer, lengths.buffer.get(), l.a, l.b),
+            Part::Queue => put_byte(&mut self.queue[..lengths.queue.get()], l.a, l.b),
+            Part::Output => put_byte(&mut self.output[..lengths.output.get()], l.a, l.b),
+            Part::Buffer => put_byte(&mut self.buffer[..lengths.buffer.get()], l.a, l.b),
         }
     }
 
@@ -72,10 +81,10 @@ impl Machine {
         ensures exactly { Exactly (self.now ≡ due.now) result }
         ensures value { result ≡ left_fault self.now due.now }
     {
-        same(self.row == due.row, Fault::Row)?;
-        same(self.cells == due.cells, Fault::Cells)?;
-        same(self.queue == due.queue, Fault::Queue)?;
-        same(self.output == due.output, Fault::Output)?;
-        same(self.buffer == due.buffer, Fault::Buffer)
+        check(self.row == due.row, Fault::Row)?;
+        check(self.cells == due.cells, Fault::Cells)?;
+        check(self.queue == due.queue, Fault::Queue)?;
+        check(self.output == due.output, Fault::Output)?;
+        check(self.buffer == due.buffer, Fault::Buffer)
     }
 }

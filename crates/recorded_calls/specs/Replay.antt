@@ -14,7 +14,7 @@ use Rattle.recorded.specs.declared.machine.Machine.{Machine}
 use Rattle.recorded.specs.declared.reader.Broken.{Broken}
 use Rattle.recorded.specs.declared.reader.Line.{Line}
 use Rattle.recorded.specs.declared.reader.Reader.{Reader}
-use Rattle.recorded.specs.Compare.{answer, of_done, of_drained, of_raised, of_ran, fault_of, answer_fault}
+use Rattle.recorded.specs.Compare.{answer, of_done, of_drained, of_raised, of_ran, answer_fault}
 use Rattle.recorded.specs.Length.{length_of, is_length}
 use Rattle.recorded.specs.Machine.{no_machine, lent_of, with_lent, with_cells, with_queue, with_row, with_buffer, emptied}
 use Rattle.recorded.specs.Reader.{no_line, fed}
@@ -25,7 +25,7 @@ use Rattle.recorded_cases.specs.declared.kind.Kind.TheVariants as K
 use Rattle.recorded_cases.specs.declared.lines.Replay.{Replay}
 use Rattle.recorded_cases.specs.declared.state.Phase.TheVariants as P
 use Rattle.recorded_cases.specs.declared.state.State.{State}
-use Rattle.recorded_cases.specs.State.{lengths, started, fails, with_fault, next_line, one_more, broken_line, text_end}
+use Rattle.recorded_cases.specs.State.{lengths, started, fails, with_fault, kept, next_line, one_more, broken_line, text_end}
 use Rattle.recorded_cases.specs.Kind.{due_kind}
 use Rattle.recorded_cases.specs.Case.{first_line, last_line, empty_line, opened, replay, with_state, byte_line, before_line, after_line, close_line}
 use Rattle.recorded_cases.specs.Verdict.{verdict_text}
@@ -36,7 +36,7 @@ use Rattle.recorded_calls.specs.declared.act.Reading.{Reading}
 -- After a call with a drain buffer of n bytes: the lines "after" may come, and the answers are compared.
 abbrev pub after_call : State → ℕ → Answer → Answer → State
 after_call s n got wanted =
-    record { phase = P.After; lengths = lengths s.lengths.queue s.lengths.output 0 n; empty = 0; cases = s.cases; calls = one_more s.calls; lines = s.lines; fault = fault_of (answer_fault got wanted) }
+    kept (record { phase = P.After; lengths = lengths s.lengths.queue s.lengths.output 0 n; empty = 0; cases = s.cases; calls = one_more s.calls; lines = s.lines; fault = None }) (answer_fault got wanted)
 
 -- What a call on the machine left of it, and its answer held to the due one. Its drain buffer has n bytes.
 abbrev pub call_done : Replay → ℕ → Machine → Answer → Answer → Replay

@@ -1,7 +1,10 @@
 // The list, byte by byte, on the machine and on what is due of it.
 ghost use Rattle.std.specs.Prelude.{◌≡◌};
-ghost use Rattle.recorded_calls.specs.Replay.{kind_done, line_done, byte_taken};
+ghost use Rattle.recorded_calls.specs.Replay.{done_if_due, line_done, byte_taken};
+ghost use Rattle.recorded_cases.specs.Case.{replay_kept};
+ghost use Rattle.recorded_cases.specs.Kind.{due_kind};
 
+use recorded::compare::Fault;
 use recorded::reader::{Broken, Line, Reader};
 use recorded_cases::kind::Kind;
 use recorded_cases::lines::Replay;
@@ -13,12 +16,12 @@ pub struct Reading {
     pub replay: Replay,
 }
 
-// A line of this kind, done.
+// What the line's kind asks, if such a line may come.
 #[tactic(auto, unfolding(crate::specs::Replay::kind_done))]
-fn act(w: &mut Replay, kind: Kind, l: Line)
-    ensures { w.new ≡ kind_done kind l w.old }
+fn act(w: &mut Replay, l: Line) -> Result<(), Fault>
+    ensures { replay_kept w.new result ≡ done_if_due (due_kind w.old.state.phase l) l w.old }
 {
-    match kind {
+    match Kind::due(w.state.phase, l)? {
         Kind::First => w.state.first(l),
         Kind::Case => crate::open(w, l),
         Kind::Before(part) => w.before(part, l),
@@ -31,16 +34,14 @@ fn act(w: &mut Replay, kind: Kind, l: Line)
     }
 }
 
-// A whole line: it is counted, and does what its kind asks.
+// A whole line: it is counted, and does what its kind asks. Its fault is kept.
 #[tactic(auto, unfolding(crate::specs::Replay::line_done))]
 fn take_line(w: &mut Replay, l: Line)
     ensures { w.new ≡ line_done l w.old }
 {
-    let kind = Kind::due(w.state.phase, l);
     w.state.next_line();
-    match kind {
-        Ok(kind) => act(w, kind, l),
-        Err(fault) => w.state.fail(fault),
+    if let Err(fault) = act(w, l) {
+        w.state.fault = Some(fault);
     }
 }
 

@@ -3,8 +3,11 @@
 
 ghost use Rattle.std.specs.Prelude.{◌≡◌, take};
 ghost use Rattle.definition.specs.Calls.{called as Calls·called, lent};
+ghost use Rattle.recorded_cases.specs.State.{kept};
+ghost use Rattle.recorded_cases.specs.Case.{replay_kept};
 ghost use Rattle.recorded_calls.specs.Replay.{after_call, ran_in, delivered_in, drained_in, run_line, deliver_line, drain_line, raise_line, set_line, call_line, open_line};
 
+use definition::answers::check;
 use definition::places::ROW;
 use definition::{Done, Drained, Ran};
 use recorded::compare::{Answer, Fault};
@@ -17,18 +20,19 @@ use recorded_cases::state::{Phase, State};
 pub mod act;
 
 // After a call with a drain buffer of so many bytes.
-fn called(s: &mut State, buffer: Length<128>, got: Answer, due: Answer)
-    ensures { s.new ≡ after_call s.old buffer got due }
+fn called(s: &mut State, buffer: Length<128>, got: Answer, due: Answer) -> Result<(), Fault>
+    ensures { kept s.new result ≡ after_call s.old buffer got due }
 {
     s.phase = Phase::After;
     s.lengths.bytes = Length::default();
     s.lengths.buffer = buffer;
     s.empty = 0;
     s.calls = s.calls.wrapping_add(1);
-    s.fault = got.compare(due).err();
+    s.fault = None;
+    got.compare(due)
 }
 
-// The calls on the parts in use of the buffers. The borrow checker lends no part of a struct's array as a slice, so the arrays are lent apart.
+// The calls on the parts in use of the buffers. The arrays are lent apart: where a part of an array of w.machine is lent at the call, no proof is found.
 fn run_in(
     cells: &mut [i64; 30000],
     queue: &mut [u8; 256],
@@ -67,8 +71,8 @@ fn drain_in(
 
 // "call run; it is not refused, and answers so"
 #[tactic(auto, unfolding(crate::specs::Replay::run_line))]
-fn run(w: &mut Replay, l: Line)
-    ensures { w.new ≡ run_line l w.old }
+fn run(w: &mut Replay, l: Line) -> Result<(), Fault>
+    ensures { replay_kept w.new result ≡ run_line l w.old }
 {
     let due = Answer {
         stop: word::to_bits(l.b),
@@ -86,36 +90,30 @@ fn run(w: &mut Replay, l: Line)
         w.state.lengths,
         word::to_bits(l.a),
     );
-    called(&mut w.state, Length::default(), ran.into(), due);
+    called(&mut w.state, Length::default(), ran.into(), due)
 }
 
 // "call deliver with the bytes of the lines 6 before it"
 #[tactic(auto, unfolding(crate::specs::Replay::deliver_line))]
-fn deliver(w: &mut Replay, l: Line)
-    ensures { w.new ≡ deliver_line l w.old }
+fn deliver(w: &mut Replay, l: Line) -> Result<(), Fault>
+    ensures { replay_kept w.new result ≡ deliver_line l w.old }
 {
-    if !w.state.lengths.bytes.is(l.a) {
-        w.state.fail(Fault::Number);
-        return;
-    }
+    check(w.state.lengths.bytes.is(l.a), Fault::Number)?;
     let due = Answer {
         refusal: word::to_bits(l.b),
         ..Answer::default()
     };
     let m = &mut w.machine;
     let done = deliver_in(&mut m.queue, &mut m.row, &w.bytes, w.state.lengths);
-    called(&mut w.state, Length::default(), done.into(), due);
+    called(&mut w.state, Length::default(), done.into(), due)
 }
 
 // "call drain; every byte of the buffer is 0 before"
 #[tactic(auto, unfolding(crate::specs::Replay::drain_line))]
-fn drain(w: &mut Replay, l: Line)
-    ensures { w.new ≡ drain_line l w.old }
+fn drain(w: &mut Replay, l: Line) -> Result<(), Fault>
+    ensures { replay_kept w.new result ≡ drain_line l w.old }
 {
-    let n = match Length::try_from(l.a) {
-        Ok(n) => n,
-        Err(fault) => return w.state.fail(fault),
-    };
+    let n = Length::try_from(l.a)?;
     let due = Answer {
         refusal: word::to_bits(l.b),
         count: word::to_bits(l.c),
@@ -129,18 +127,15 @@ fn drain(w: &mut Replay, l: Line)
         ..w.state.lengths
     };
     let drained = drain_in(&m.output, &mut m.row, &mut m.buffer, lengths);
-    called(&mut w.state, n, drained.into(), due);
+    called(&mut w.state, n, drained.into(), due)
 }
 
 // "After 13, stop 0 means that the exception was entered."
 #[tactic(auto, unfolding(crate::specs::Replay::raise_line))]
-fn raise(w: &mut Replay, l: Line)
-    ensures { w.new ≡ raise_line l w.old }
+fn raise(w: &mut Replay, l: Line) -> Result<(), Fault>
+    ensures { replay_kept w.new result ≡ raise_line l w.old }
 {
-    if l.a < 0 {
-        w.state.fail(Fault::Number);
-        return;
-    }
+    check(0 <= l.a, Fault::Number)?;
     let due = Answer {
         refusal: word::to_bits(l.b),
         stop: word::to_bits(l.c),
@@ -149,28 +144,25 @@ fn raise(w: &mut Replay, l: Line)
     };
     let m = &mut w.machine;
     let raised = z33::raise::z33_raise(&mut m.cells, &mut m.row, word::to_bits(l.a));
-    called(&mut w.state, Length::default(), raised.into(), due);
+    called(&mut w.state, Length::default(), raised.into(), due)
 }
 
 #[tactic(auto, unfolding(crate::specs::Replay::set_line))]
-fn set_register(w: &mut Replay, l: Line)
-    ensures { w.new ≡ set_line l w.old }
+fn set_register(w: &mut Replay, l: Line) -> Result<(), Fault>
+    ensures { replay_kept w.new result ≡ set_line l w.old }
 {
-    if l.a < 0 {
-        w.state.fail(Fault::Number);
-        return;
-    }
+    check(0 <= l.a, Fault::Number)?;
     let due = Answer {
         refusal: word::to_bits(l.c),
         ..Answer::default()
     };
     let done = z33::register::z33_set_register(&mut w.machine.row, word::to_bits(l.a), l.b);
-    called(&mut w.state, Length::default(), done.into(), due);
+    called(&mut w.state, Length::default(), done.into(), due)
 }
 
 // The lines 10 to 14.
-fn call(w: &mut Replay, call: Call, l: Line)
-    ensures { w.new ≡ call_line call l w.old }
+fn call(w: &mut Replay, call: Call, l: Line) -> Result<(), Fault>
+    ensures { replay_kept w.new result ≡ call_line call l w.old }
 {
     match call {
         Call::Run => run(w, l),
@@ -183,13 +175,13 @@ fn call(w: &mut Replay, call: Call, l: Line)
 
 // "opens a case: all cells empty, all bytes 0, the row's 20 numbers 0"
 #[tactic(auto, using(crate::proofs::Laws::fresh_clears), unfolding(crate::specs::Replay::open_line))]
-fn open(w: &mut Replay, l: Line)
-    ensures { w.new ≡ open_line l w.old }
+fn open(w: &mut Replay, l: Line) -> Result<(), Fault>
+    ensures { replay_kept w.new result ≡ open_line l w.old }
 {
     let m = &mut w.machine;
     z33::fresh::z33_fresh(&mut m.cells, &mut m.row);
     m.queue.fill(0);
     m.output.fill(0);
     w.due.clear();
-    w.state.open(l);
+    w.state.open(l)
 }

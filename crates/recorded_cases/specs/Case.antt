@@ -7,14 +7,14 @@ use Rattle.recorded.specs.declared.compare.Fault.TheVariants as F
 use Rattle.recorded.specs.declared.machine.Machine.{Machine}
 use Rattle.recorded.specs.declared.machine.Part.{Part}
 use Rattle.recorded.specs.declared.reader.Line.{Line}
-use Rattle.recorded.specs.Compare.{fault_of, left_fault}
+use Rattle.recorded.specs.Compare.{Verdict, left_fault}
 use Rattle.recorded.specs.Length.{length_of, is_length}
 use Rattle.recorded.specs.Machine.{put_in}
 use Rattle.recorded.specs.Place.{byte_put}
 use Rattle.recorded_cases.specs.declared.lines.Replay.{Replay}
 use Rattle.recorded_cases.specs.declared.state.Phase.TheVariants as P
 use Rattle.recorded_cases.specs.declared.state.State.{State}
-use Rattle.recorded_cases.specs.State.{lengths, with_fault, with_fault_of, with_phase, one_more, checked}
+use Rattle.recorded_cases.specs.State.{lengths, with_fault, with_fault_of, kept, with_phase, one_more, checked}
 
 -- "first line: version of the format, count of cells of every machine"
 abbrev pub first_line : State → Line → State
@@ -57,6 +57,9 @@ replay s m d t = record { state = s; machine = m; due = d; bytes = t }
 abbrev pub with_state : Replay → State → Replay
 with_state w s = replay s w.machine w.due w.bytes
 
+abbrev pub replay_kept : Replay → Verdict → Replay
+replay_kept w r = with_state w (kept w.state r)
+
 -- "a byte for the next line 11, in order"
 abbrev pub more_bytes : State → State
 more_bytes s =
@@ -65,10 +68,10 @@ more_bytes s =
 abbrev pub byte_line : Line → Replay → Replay
 byte_line l w =
     let s = w.state in
-    let x = byte_put (address_of l.a) (address_of l.b) 8 w.bytes in
+    let x = byte_put (address_of l.a) (address_of l.b) w.bytes in
     cond
     (nat_lt s.lengths.bytes 8)
-    (replay (checked (more_bytes s) (is_length l.a s.lengths.bytes && x.0)) w.machine w.due x.1)
+    (replay (kept (checked (more_bytes s) (is_length l.a s.lengths.bytes)) x.0) w.machine w.due x.1)
     (with_state w (with_fault s F.Number))
 
 -- "Lines 2 to 5 set both."
@@ -76,14 +79,14 @@ abbrev pub before_line : Part → Line → Replay → Replay
 before_line p l w =
     let m = put_in p l w.state.lengths w.machine in
     let d = put_in p l w.state.lengths w.due in
-    replay (checked w.state (m.0 && d.0)) m.1 d.1 w.bytes
+    replay (kept (kept w.state d.0) m.0) m.1 d.1 w.bytes
 
 -- "Lines 20 to 24 set the second."
 abbrev pub after_line : Part → Line → Replay → Replay
 after_line p l w =
     let d = put_in p l w.state.lengths w.due in
-    replay (checked w.state d.0) w.machine d.1 w.bytes
+    replay (kept w.state d.0) w.machine d.1 w.bytes
 
 -- "closes a call: everything not named since the call is as before the call"
 abbrev pub close_line : Replay → Replay
-close_line w = with_state w (with_fault_of (with_phase w.state P.Call) (fault_of (left_fault w.machine w.due)))
+close_line w = with_state w (kept (with_fault_of (with_phase w.state P.Call) None) (left_fault w.machine w.due))

@@ -1,5 +1,6 @@
 -- Which line of the list may come (host/recorded/FORMAT.md).
-use Rattle.std.specs.Prelude.{ℕ, Bool, true, false, cond, ◌&&◌, ◌||◌, ℤ, pos, nat_lt, Result, Ok, Err}
+use Rattle.std.specs.Prelude.{ℕ, Bool, true, false, cond, [], ◌∷◌, drop, ℤ, pos, Result, Ok, Err}
+use Rattle.std.specs.List.{list_all}
 use Rattle.std.specs.Ordering.{int_eq}
 use Rattle.recorded.specs.declared.compare.Fault.{Fault}
 use Rattle.recorded.specs.declared.compare.Fault.TheVariants as F
@@ -109,8 +110,7 @@ abbrev pub is0 : ℤ → Bool
 is0 z = int_eq z (pos 0)
 
 unfoldable pub others_are0 : Line → ℕ → Bool
-others_are0 l n =
-    (((nat_lt 0 n || is0 l.a) && (nat_lt 1 n || is0 l.b)) && (nat_lt 2 n || is0 l.c)) && (nat_lt 3 n || is0 l.d)
+others_are0 l n = list_all is0 (drop n (l.a ∷ l.b ∷ l.c ∷ l.d ∷ []))
 
 -- The line's kind, unless such a line may not come now, or has a number too many.
 abbrev pub due_of : Phase → Line → Result Kind Fault → Result Kind Fault

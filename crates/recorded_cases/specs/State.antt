@@ -1,9 +1,10 @@
 -- How far the replay is (host/recorded/FORMAT.md).
-use Rattle.std.specs.Prelude.{ℕ, ◌+◌, ◌%◌, ◌^◌, Bool, true, false, cond, ◌&&◌, is_some, Option, Some, None}
+use Rattle.std.specs.Prelude.{ℕ, ◌+◌, ◌%◌, ◌^◌, Bool, true, false, cond, ◌&&◌, is_some, Option, Some, None, Ok, Err}
 use Rattle.recorded.specs.declared.compare.Fault.{Fault}
 use Rattle.recorded.specs.declared.compare.Fault.TheVariants as F
 use Rattle.recorded.specs.declared.length.Lengths.{Lengths}
 use Rattle.recorded.specs.declared.reader.Reader.{Reader}
+use Rattle.recorded.specs.Compare.{Verdict, unless}
 use Rattle.recorded.specs.Reader.{is_at_start}
 use Rattle.recorded_cases.specs.declared.state.Phase.{Phase}
 use Rattle.recorded_cases.specs.declared.state.Phase.TheVariants as P
@@ -27,6 +28,11 @@ with_fault_of s f =
 abbrev pub with_fault : State → Fault → State
 with_fault s f = with_fault_of s (Some f)
 
+-- What a line that was met or not leaves: its fault is kept.
+abbrev pub kept : State → Verdict → State
+kept s (Ok x) = s
+kept s (Err f) = with_fault s f
+
 abbrev pub with_phase : State → Phase → State
 with_phase s p =
     record { phase = p; lengths = s.lengths; empty = s.empty; cases = s.cases; calls = s.calls; lines = s.lines; fault = s.fault }
@@ -39,8 +45,9 @@ abbrev pub next_line : State → State
 next_line s =
     record { phase = s.phase; lengths = s.lengths; empty = s.empty; cases = s.cases; calls = s.calls; lines = one_more s.lines; fault = s.fault }
 
+-- A line's numbers are out of range unless this holds.
 abbrev pub checked : State → Bool → State
-checked s ok = cond ok s (with_fault s F.Number)
+checked s ok = kept s (unless ok F.Number (Ok tt))
 
 -- A line that is not five numbers.
 abbrev pub broken_line : State → State

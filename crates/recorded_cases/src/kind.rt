@@ -3,6 +3,7 @@ ghost use Rattle.std.specs.Prelude.{◌≡◌};
 ghost use Rattle.recorded_cases.specs.Kind.{kind_of, is_due, used, others_are0, due_kind};
 
 use crate::state::Phase;
+use definition::answers::check;
 use recorded::compare::Fault;
 use recorded::machine::Part;
 use recorded::reader::Line;
@@ -87,7 +88,7 @@ impl Kind {
 
     // How many numbers a line of this kind has besides the kind; the others are 0.
     #[tactic(auto, unfolding(crate::specs::Kind::used))]
-    fn used(self) -> u32
+    fn used(self) -> usize
         ensures { result ≡ used self }
     {
         match self {
@@ -111,23 +112,16 @@ impl Kind {
         ensures { result ≡ due_kind phase l }
     {
         let kind = Kind::try_from(l.kind)?;
-        if !kind.is_due(phase) {
-            return Err(Fault::Order);
-        }
-        if !others_are_0(l, kind.used()) {
-            return Err(Fault::Number);
-        }
+        check(kind.is_due(phase), Fault::Order)?;
+        check(others_are_0(l, kind.used()), Fault::Number)?;
         Ok(kind)
     }
 }
 
 // "numbers that a kind does not use are 0"
 #[tactic(auto, unfolding(crate::specs::Kind::others_are0))]
-fn others_are_0(l: Line, used: u32) -> bool
+fn others_are_0(l: Line, used: usize) -> bool
     ensures { result ≡ others_are0 l used }
 {
-    (0 < used || l.a == 0)
-        && (1 < used || l.b == 0)
-        && (2 < used || l.c == 0)
-        && (3 < used || l.d == 0)
+    [l.a, l.b, l.c, l.d].iter().skip(used).all(|z| *z == 0)
 }

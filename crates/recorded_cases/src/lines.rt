@@ -1,8 +1,10 @@
 // What each line of the list asks, apart from the calls.
 ghost use Rattle.std.specs.Prelude.{◌≡◌};
-ghost use Rattle.recorded_cases.specs.Case.{first_line, last_line, empty_line, case_of, opened, byte_line, before_line, after_line, close_line};
+ghost use Rattle.recorded_cases.specs.State.{kept};
+ghost use Rattle.recorded_cases.specs.Case.{replay_kept, first_line, last_line, empty_line, case_of, opened, byte_line, before_line, after_line, close_line};
 
 use crate::state::{Phase, State};
+use definition::answers::check;
 use recorded::compare::Fault;
 use recorded::length::{Length, Lengths};
 use recorded::machine::{Machine, Part};
@@ -19,33 +21,32 @@ pub struct Replay {
     pub bytes: [u8; 8],
 }
 
+// What a line does, and what is wrong with it: first, empty and a byte to deliver move the phase before their numbers are tested.
 impl State {
     // "first line: version of the format, count of cells of every machine"
-    pub fn first(&mut self, l: Line)
-        ensures { self.new ≡ first_line self.old l }
+    pub fn first(&mut self, l: Line) -> Result<(), Fault>
+        ensures { kept self.new result ≡ first_line self.old l }
     {
         self.phase = Phase::Case;
-        self.check(l.a == 1 && l.b == 10000);
+        check(l.a == 1 && l.b == 10000, Fault::Number)
     }
 
     // "last line": the count of cases.
-    pub fn last(&mut self, l: Line)
-        ensures { self.new ≡ last_line self.old l }
+    pub fn last(&mut self, l: Line) -> Result<(), Fault>
+        ensures { kept self.new result ≡ last_line self.old l }
     {
-        if word::to_bits(l.a) == self.cases {
-            self.phase = Phase::End;
-        } else {
-            self.fail(Fault::Cases);
-        }
+        check(word::to_bits(l.a) == self.cases, Fault::Cases)?;
+        self.phase = Phase::End;
+        Ok(())
     }
 
     // "the words that the next call, a run, takes from empty cells; 0 without such a line"
-    pub fn empty(&mut self, l: Line)
-        ensures { self.new ≡ empty_line self.old l }
+    pub fn empty(&mut self, l: Line) -> Result<(), Fault>
+        ensures { kept self.new result ≡ empty_line self.old l }
     {
         self.phase = Phase::Run;
         self.empty = word::to_bits(l.a);
-        self.check(0 < l.a);
+        check(0 < l.a, Fault::Number)
     }
 
     // The case that the line opens: its number and lengths.
@@ -53,9 +54,8 @@ impl State {
         ensures { result ≡ case_of self.now l }
     {
         let cases = self.cases.wrapping_add(1);
-        if word::to_bits(l.a) != cases {
-            return Err(Fault::Cases);
-        }
+        check(word::to_bits(l.a) == cases, Fault::Cases)?;
+        // "1 for the runner", else 0
         Length::<1>::try_from(l.d)?;
         Ok(State {
             phase: Phase::Before,
@@ -72,54 +72,48 @@ impl State {
     }
 
     // A case's number and lengths.
-    pub fn open(&mut self, l: Line)
-        ensures { self.new ≡ opened self.old l }
+    pub fn open(&mut self, l: Line) -> Result<(), Fault>
+        ensures { kept self.new result ≡ opened self.old l }
     {
-        match self.case(l) {
-            Ok(state) => *self = state,
-            Err(fault) => self.fail(fault),
-        }
+        *self = self.case(l)?;
+        Ok(())
     }
 }
 
 impl Replay {
     // "a byte for the next line 11, in order"
-    pub fn byte_to_deliver(&mut self, l: Line)
-        ensures { self.new ≡ byte_line l self.old }
+    pub fn byte_to_deliver(&mut self, l: Line) -> Result<(), Fault>
+        ensures { replay_kept self.new result ≡ byte_line l self.old }
     {
         let n = self.state.lengths.bytes;
-        let Some(more) = Length::of(n.get() + 1) else {
-            self.state.fail(Fault::Number);
-            return;
-        };
-        let is_put = put_byte(&mut self.bytes, 8, l.a, l.b);
+        self.state.lengths.bytes = Length::of(n.get() + 1).ok_or(Fault::Number)?;
         self.state.phase = Phase::Delivery;
-        self.state.lengths.bytes = more;
-        self.state.check(n.is(l.a) && is_put);
+        put_byte(&mut self.bytes, l.a, l.b)?;
+        check(n.is(l.a), Fault::Number)
     }
 
     // The lines 2 to 5: "before". "Lines 2 to 5 set both."
-    pub fn before(&mut self, part: Part, l: Line)
-        ensures { self.new ≡ before_line part l self.old }
+    pub fn before(&mut self, part: Part, l: Line) -> Result<(), Fault>
+        ensures { replay_kept self.new result ≡ before_line part l self.old }
     {
-        let is_put = self.machine.put(part, l, self.state.lengths);
-        let is_due_put = self.due.put(part, l, self.state.lengths);
-        self.state.check(is_put && is_due_put);
+        let put = self.machine.put(part, l, self.state.lengths);
+        let due_put = self.due.put(part, l, self.state.lengths);
+        put.and(due_put)
     }
 
     // The lines 20 to 24: "after". "Lines 20 to 24 set the second."
-    pub fn after(&mut self, part: Part, l: Line)
-        ensures { self.new ≡ after_line part l self.old }
+    pub fn after(&mut self, part: Part, l: Line) -> Result<(), Fault>
+        ensures { replay_kept self.new result ≡ after_line part l self.old }
     {
-        let is_put = self.due.put(part, l, self.state.lengths);
-        self.state.check(is_put);
+        self.due.put(part, l, self.state.lengths)
     }
 
     // "closes a call: everything not named since the call is as before the call"
-    pub fn close(&mut self)
-        ensures { self.new ≡ close_line self.old }
+    pub fn close(&mut self) -> Result<(), Fault>
+        ensures { replay_kept self.new result ≡ close_line self.old }
     {
         self.state.phase = Phase::Call;
-        self.state.fault = self.machine.compare(&self.due).err();
+        self.state.fault = None;
+        self.machine.compare(&self.due)
     }
 }

@@ -1,6 +1,6 @@
 // How far the replay is, and the first thing that is not as the list says.
 ghost use Rattle.std.specs.Prelude.{◌≡◌};
-ghost use Rattle.recorded_cases.specs.State.{started, checked, with_fault, next_line, broken_line, text_end};
+ghost use Rattle.recorded_cases.specs.State.{started, next_line, broken_line, text_end};
 
 use recorded::compare::Fault;
 use recorded::length::Lengths;
@@ -44,21 +44,6 @@ impl State {
         Self::default()
     }
 
-    pub fn fail(&mut self, fault: Fault)
-        ensures { self.new ≡ with_fault self.old fault }
-    {
-        self.fault = Some(fault);
-    }
-
-    // A line's numbers are out of range unless they are as they should.
-    pub fn check(&mut self, is_in_range: bool)
-        ensures { self.new ≡ checked self.old is_in_range }
-    {
-        if !is_in_range {
-            self.fail(Fault::Number);
-        }
-    }
-
     // One line more.
     pub fn next_line(&mut self)
         ensures { self.new ≡ next_line self.old }
@@ -71,7 +56,7 @@ impl State {
         ensures { self.new ≡ broken_line self.old }
     {
         self.next_line();
-        self.fail(Fault::Text);
+        self.fault = Some(Fault::Text);
     }
 
     // The text's end is due after the last line.
@@ -80,7 +65,7 @@ impl State {
     {
         if self.fault.is_none() && !(reader.is_at_start() && self.phase == Phase::End) {
             self.next_line();
-            self.fail(Fault::End);
+            self.fault = Some(Fault::End);
         }
     }
 }

@@ -16,10 +16,10 @@ use definition::places;
 pub fn fresh_check(cells: &[i64], row: &[i64]) -> Result<(), Refusal>
     ensures { done_of result ≡ fresh_check cells.now row.now }
 {
-    cells_check(cells).and(check(row.len() == places::ROW, Refusal::Row(0)))
+    cells_check(cells)?;
+    check(row.len() == places::ROW, Refusal::Row(0))
 }
 
-// Its order and damage's are measured: the run's loop, compiled into the same function, gets its registers by them.
 pub fn run_check(cells: &[i64], queue: &[u8], output: &[u8], row: &[i64]) -> Result<(), Refusal>
     ensures { done_of result ≡ run_check (lent cells.now queue.now output.now row.now) }
 {
@@ -70,8 +70,7 @@ pub fn read_check(cells: &[i64], n: u64) -> Result<(), Refusal>
 pub fn image_fits(image: &[i64], room: usize) -> bool
     ensures { result ≡ (eqb (length image.now % 3) 0 && (leb (cell_count image.now) room && eqb (lowest_damaged 0 image.now) (cell_count image.now))) }
 {
-    let n = image.len() / 3;
-    image.len() % 3 == 0 && n <= room && encoding::lowest_damaged(image) == n
+    image.len() % 3 == 0 && image.len() / 3 <= room && encoding::lowest_damaged(image).is_none()
 }
 
 // "9. The image is no whole number of cells, runs past the end, or holds a damaged cell."
@@ -85,7 +84,7 @@ pub fn load_check(cells: &[i64], image: &[i64], start: u64) -> Result<(), Refusa
     check(image_fits(image, count - start), Refusal::Image)
 }
 
-// "10. The register is not a, b, pc or sp, or pc or sp would be no address."
+// "10. The register is not a, b, pc or sp, or pc or sp would be no address." r is the number that C gives, so it may be any.
 pub fn register_fits(r: u64, w: i64) -> bool
     ensures { result ≡ is_settable r w }
 {

@@ -2,42 +2,74 @@
 #![tactic(auto)]
 
 ghost use Rattle.std.specs.Prelude.{◌≡◌, ◌<◌};
+ghost use Rattle.definition.specs.Word.{bit};
 ghost use Rattle.definition.specs.Memory.{as_address};
-ghost use Rattle.definition.specs.Registers.{get_reg, put_reg, put_pc, put_sp, put_sr, put_flag, supervisor, interrupt_enable, counted};
+ghost use Rattle.definition.specs.Registers.{get_reg, put_reg, put_sr, put_flag, supervisor, interrupt_enable, counted};
 ghost use Rattle.definition.specs.Exec.{below};
-ghost use Rattle.registers.specs.Meaning.{settled};
+ghost use Rattle.registers.specs.Meaning.{flag_bit, settled, addressed};
 
 use definition::{Cell, Error, Reg, Registers, Word};
 use memory::Write;
 
-// What a step has done to the core so far: the registers, and the one cell write that waits. The cells are lent beside it.
+// What a step has done to the core so far: the registers, and the one cell write that waits. Cells and guard are lent beside it: were they fields,
+// each contract would have to say that they stay.
 #[derive(Clone, Copy)]
 pub struct Plan {
     pub s: Registers,
     pub write: Option<Write>,
 }
 
+// The flags of sr, as StatusRegister names them.
+#[derive(Clone, Copy)]
+pub enum Flag {
+    Zero,
+    Negative,
+    Overflow,
+    InterruptEnable,
+    Supervisor,
+}
+
+impl Flag {
+    fn bit(self) -> u64
+        ensures value { result ≡ flag_bit self }
+        ensures word { result < 64 }
+    {
+        match self {
+            Flag::Zero => 1,
+            Flag::Negative => 2,
+            Flag::Overflow => 3,
+            Flag::InterruptEnable => 8,
+            Flag::Supervisor => 9,
+        }
+    }
+}
+
 // StatusRegister::contains
+pub fn get_flag(s: &Registers, f: Flag) -> bool
+    ensures { result ≡ bit (flag_bit f) s.now.sr }
+{
+    word::test_bit(s.sr, f.bit())
+}
+
 #[tactic(auto, unfolding(definition::specs::Registers::supervisor))]
 pub fn supervisor(s: &Registers) -> bool
     ensures { result ≡ supervisor s.now }
 {
-    word::test_bit(s.sr, 9)
+    get_flag(s, Flag::Supervisor)
 }
 
 #[tactic(auto, unfolding(definition::specs::Registers::interrupt_enable))]
 pub fn interrupt_enable(s: &Registers) -> bool
     ensures { result ≡ interrupt_enable s.now }
 {
-    word::test_bit(s.sr, 8)
+    get_flag(s, Flag::InterruptEnable)
 }
 
 // StatusRegister::set
-pub fn put_flag(s: &mut Registers, k: u64, on: bool)
-    requires { k < 64 }
-    ensures { s.new ≡ put_flag k on s.old }
+pub fn put_flag(s: &mut Registers, f: Flag, on: bool)
+    ensures { s.new ≡ put_flag (flag_bit f) on s.old }
 {
-    s.sr = word::put_bit(s.sr, k, on);
+    s.sr = word::put_bit(s.sr, f.bit(), on);
 }
 
 // "sp 0 less 1 wraps to 4,294,967,295"
@@ -45,7 +77,7 @@ pub fn put_flag(s: &mut Registers, k: u64, on: bool)
 pub fn below(sp: u32) -> u32
     ensures { result ≡ below sp }
 {
-    if sp == 0 { u32::MAX } else { sp - 1 }
+    sp.wrapping_sub(1)
 }
 
 // Registers::get
@@ -72,24 +104,14 @@ pub fn count(s: &mut Registers, w: Word)
     }
 }
 
-#[tactic(auto, unfolding(definition::specs::Registers::put_pc, definition::specs::Registers::counted))]
-fn put_pc(s: &mut Registers, w: Word) -> Result<(), Error>
-    ensures { (result, s.new) ≡ settled s.old (put_pc (as_address w) (counted w s.old)) }
+// The address that pc or sp takes, or else its error.
+#[tactic(auto, unfolding(definition::specs::Registers::counted))]
+fn taken_address(s: &mut Registers, w: Word, error: Error) -> Result<u32, Error>
+    ensures { (result, s.new) ≡ addressed s.old (as_address w) (counted w s.old) error }
 {
-    let n = memory::as_address(w).ok_or(Error::InvalidPc)?;
+    let n = memory::as_address(w).ok_or(error)?;
     count(s, w);
-    s.pc = n;
-    Ok(())
-}
-
-#[tactic(auto, unfolding(definition::specs::Registers::put_sp, definition::specs::Registers::counted))]
-fn put_sp(s: &mut Registers, w: Word) -> Result<(), Error>
-    ensures { (result, s.new) ≡ settled s.old (put_sp (as_address w) (counted w s.old)) }
-{
-    let n = memory::as_address(w).ok_or(Error::InvalidSp)?;
-    count(s, w);
-    s.sp = n;
-    Ok(())
+    Ok(n)
 }
 
 // "Writing sr with S clear raises code 3, whatever the value."
@@ -111,15 +133,15 @@ fn put_sr(s: &mut Registers, w: Word) -> Result<(), Error>
 }
 
 // Computer::set_register
-#[tactic(auto, unfolding(definition::specs::Registers::put_reg, definition::specs::Memory::extract_address))]
+#[tactic(auto, unfolding(definition::specs::Registers::put_reg, definition::specs::Registers::put_pc, definition::specs::Registers::put_sp, definition::specs::Registers::counted, definition::specs::Memory::extract_address))]
 pub fn put_reg(s: &mut Registers, r: Reg, v: Cell) -> Result<(), Error>
     ensures { (result, s.new) ≡ settled s.old (put_reg r v s.old) }
 {
     match r {
         Reg::A => s.a = v,
         Reg::B => s.b = v,
-        Reg::PC => put_pc(s, memory::extract_word(v))?,
-        Reg::SP => put_sp(s, memory::extract_word(v))?,
+        Reg::PC => s.pc = taken_address(s, memory::extract_word(v), Error::InvalidPc)?,
+        Reg::SP => s.sp = taken_address(s, memory::extract_word(v), Error::InvalidSp)?,
         Reg::SR => put_sr(s, memory::extract_word(v))?,
     }
     Ok(())

@@ -43,7 +43,8 @@ pub fn put_answer<const N: usize>(text: &mut Text<N>, ran: Ran)
     put_line(text, b"steps", &[ran.steps]);
 }
 
-// "cycles; pc, sp, sr"
+// "cycles; pc, sp, sr". The row is a slice whose length is asked for, as crate row has it: an array's type would ask more of a caller that
+// holds a slice.
 #[tactic(auto, using(crate::proofs::Laws::pieces), unfolding(crate::specs::Text::registers_text))]
 pub fn put_registers<const N: usize>(text: &mut Text<N>, row: &[i64])
     requires row_len { length row.now ≡ ROW }
@@ -80,7 +81,7 @@ pub fn run(ran: Ran, row: &[i64]) -> Report
     text
 }
 
-// "A refusal prints `refused`, number and line."
+// "A refusal prints `refused`, number and line." Numbers, as they are printed: what a file is refused with is no `Refusal`.
 #[tactic(auto, using(crate::proofs::Laws::shorts), unfolding(crate::specs::Text::refusal_text))]
 pub fn refusal(number: u64, place: u64) -> Report
     ensures { result ≡ refusal_text number place }

@@ -5,15 +5,15 @@
 ghost use Rattle.std.specs.Prelude.{◌≡◌, [], ◌+◌, ◌<◌, ◌^◌, pos, nat_abs, length, get_or, set};
 ghost use Rattle.definition.specs.Constants.{ROW, ROW-PC, ROW-SP, ROW-SR, ROW-CYCLES, ROW-ENABLE, ROW-FLAG, ROW-PENDING, ROW-START, ROW-COUNT, ROW-WRITTEN, ROW-FENCE, ROW-INTERVAL, ROW-REMAINING, ROW-MARK};
 ghost use Rattle.definition.specs.Word.{eq_z};
-ghost use Rattle.definition.specs.Memory.{cell};
 ghost use Rattle.definition.specs.Calls.{at, put, mark, row_of, delivered_row};
 ghost use Rattle.definition.specs.Accepted.{Below, TimerIn};
 ghost use Rattle.row.specs.Meaning.{registers_of, marks_of, state_of, timer_of, row_state, machine_at};
 
 use console::ConsoleState;
-use definition::{Cell, Marks, Registers, Timer, places};
+use definition::{Marks, Registers, Timer, places};
 
-// Computer, without the lent cells, queue and output record.
+// Computer, without the lent cells, queue and output record. That its numbers fit a row is asked by contracts and no ghost field, as of Timer:
+// the definition's machine has any numbers.
 #[derive(Clone, Copy)]
 pub struct State {
     pub s: Registers,
@@ -53,24 +53,13 @@ pub fn mark_at(row: &[i64], i: usize) -> bool
     row[i] == 1
 }
 
-pub fn cell_at(row: &[i64], i: usize) -> Cell
-    requires { i + 2 < length row.now }
-    ensures { result ≡ cell (get_or row.now i (pos 0)) (get_or row.now (i + 1) (pos 0)) (get_or row.now (i + 2) (pos 0)) }
-{
-    Cell {
-        tag: row[i],
-        first: row[i + 1],
-        second: row[i + 2],
-    }
-}
-
 pub fn registers(row: &[i64]) -> Registers
     requires { (length row.now ≡ ROW) × (Below (2 ^ 32) (at ROW-PC row.now) × Below (2 ^ 32) (at ROW-SP row.now)) }
     ensures { result ≡ registers_of row.now }
 {
     Registers {
-        a: cell_at(row, places::A),
-        b: cell_at(row, places::B),
+        a: memory::cell_from(row, places::A),
+        b: memory::cell_from(row, places::B),
         pc: number_at(row, places::PC) as u32,
         sp: number_at(row, places::SP) as u32,
         sr: row[places::SR],
@@ -119,15 +108,6 @@ pub fn put(row: &mut [i64], i: usize, z: i64)
     row[i] = z;
 }
 
-pub fn put_cell(row: &mut [i64], i: usize, v: Cell)
-    requires { i + 2 < length row.old }
-    ensures { row.new ≡ set (set (set row.old i v.tag) (i + 1) v.first) (i + 2) v.second }
-{
-    row[i] = v.tag;
-    row[i + 1] = v.first;
-    row[i + 2] = v.second;
-}
-
 // pc, sp, sr and cycles.
 pub fn put_numbers(row: &mut [i64], s: &Registers, cycles: u64)
     requires { (length row.old ≡ ROW) × (cycles < 2 ^ 63) }
@@ -171,8 +151,8 @@ pub fn write_row(row: &mut [i64], m: &State)
     requires { (length row.old ≡ ROW) × ((m.now.cycles < 2 ^ 63) × ((m.now.k.start < 2 ^ 63) × ((m.now.k.count < 2 ^ 63) × ((m.now.k.written < 2 ^ 63) × TimerIn m.now.timer)))) }
     ensures { row.new ≡ row_of (machine_at [] [] [] m.now) }
 {
-    put_cell(row, places::A, m.s.a);
-    put_cell(row, places::B, m.s.b);
+    memory::cell_into(row, places::A, m.s.a);
+    memory::cell_into(row, places::B, m.s.b);
     put_numbers(row, &m.s, m.cycles);
     put_marks(row, &m.k.marks);
     put_console(row, &m.k);

@@ -16,7 +16,8 @@ const STDOUT: i32 = 1;
 
 const STDERR: i32 = 2;
 
-// Reads until the text is full or the input ends, and answers how much was read.
+// Reads until the text is full or the input ends, and answers how much was read. Counted by hand: read_exact fails where the input ends first,
+// and read_to_end fills a Vec.
 fn read_all<R: Read>(from: &mut R, text: &mut [u8]) -> std::io::Result<usize>
     ensures { IfOk result (ReadsFront (R.remaining from.old) text.new) }
 {

@@ -1,11 +1,11 @@
 -- When a case passes, how the tally grows and where it ends. Assumes nothing.
-use Rattle.std.proofs.Common.{◌≡◌, refl, sym, ap, ◌∙◌, Bool, cond, ◌&&◌, true, false, List, [], ◌∷◌, ℕ, zero, suc, ◌+◌, ◌*◌, ◌-◌, ◌<◌, ◌≤◌, arith, eqb, length, get_or, take, drop, drop-cons, add-one, length-take, length-drop, get_or-take, get_or-drop}
+use Rattle.std.proofs.Common.{◌≡◌, refl, sym, ap, ◌∙◌, Bool, cond, ◌&&◌, true, false, List, [], ◌∷◌, ℕ, zero, suc, ◌+◌, ◌*◌, ◌-◌, ◌<◌, ◌≤◌, arith, eqb, length, get_or, drop, drop-cons, add-one, length-drop, Some, None}
 use Rattle.std.specs.Int.{from_bool}
 use lib.Pointwise.{pointwise}
 use lib.Seq.{drop-length}
-use borrow.Author.Tests.{le-leb, lt-leb}
+use Rattle.std.proofs.lemmas.Grind.{common_steps}
 use Rattle.runner_cases.specs.declared.Tally.{Tally}
-use Rattle.runner_cases.specs.Cases.{digit_of, length_at, input_at, due_at, end_of, same_text, passing, tally, counted, tallied, tally_of}
+use Rattle.runner_cases.specs.Cases.{digit_of, length_of, Whole, case_of, same_text, passing, tally, counted, tallied, tally_of}
 
 -- ---- two texts
 
@@ -40,55 +40,53 @@ seven (a ∷ b ∷ c ∷ d ∷ e ∷ f ∷ []) h = absurd (omega arith)
 seven (a ∷ b ∷ c ∷ d ∷ e ∷ f ∷ g ∷ []) h = omega arith
 seven (a ∷ b ∷ c ∷ d ∷ e ∷ f ∷ g ∷ x ∷ t) h = absurd (omega arith)
 
-pub length_is : (s : List ℕ) (at : ℕ) → at + 7 ≤ length s → number 0 (take 7 (drop at s)) ≡ length_at s at
-unfolding length_at
-length_is s at h =
-    let t = take 7 (drop at s) in
-    let l : length t ≡ 7 = simp (length-take, length-drop) (omega arith) in
-    let g : (k : ℕ) → k < 7 → get_or t k 0 ≡ get_or s (at + k) 0 = λ k i. rw (get_or-take, get_or-drop) in
-    let z : at + 0 ≡ at = omega arith in
-    seven t l ∙ rw (g 0 (omega arith), g 1 (omega arith), g 2 (omega arith), g 3 (omega arith), g 4 (omega arith), g 5 (omega arith), g 6 (omega arith), z)
+pub length_is : (t : List ℕ) → length t ≡ 7 → number 0 t ≡ length_of t
+unfolding length_of
+length_is t h = seven t h
 
 -- ---- the tally
 
-tallied-more : (k : ℕ) (s : List ℕ) (t : Tally) → 0 < k → end_of s t.at ≤ length s → tallied k s t ≡ tallied (k - 1) s (counted s t)
+-- a case has 16 bytes and more
+pub rest_shorter : (s : List ℕ) {c : Whole} → case_of s ≡ Some c → length c.2 + 16 ≤ length s
+unfolding case_of
+rest_shorter s e = grind (arith, common_steps, length-drop)
+
+tallied-more : (k : ℕ) (s : List ℕ) (t : Tally) {c : Whole} → 0 < k → 0 < length s → case_of s ≡ Some c → tallied k s t ≡ tallied (k - 1) c.2 (counted c t)
 unfolding tallied
-tallied-more zero s t h e = absurd (omega arith)
-tallied-more (suc k) s t h e =
+tallied-more k [] t h i e = absurd (omega arith)
+tallied-more zero (b ∷ s) t h i e = absurd (omega arith)
+tallied-more (suc k) (b ∷ s) t h i e =
     let z : suc k - 1 ≡ k = omega arith in
-    rw (z, le-leb (end_of s t.at) (length s) e)
+    rw (z, e)
 
-tallied-end : (k : ℕ) (s : List ℕ) (t : Tally) → length s < end_of s t.at → tallied k s t ≡ t
+tallied-none : (k : ℕ) (s : List ℕ) (t : Tally) → 0 < length s → case_of s ≡ None → tallied k s t ≡ None
 unfolding tallied
-tallied-end zero s t h = refl
-tallied-end (suc k) s t h = rw (lt-leb (end_of s t.at) (length s) h)
+tallied-none k [] t h e = absurd (omega arith)
+tallied-none zero (b ∷ s) t h e = refl
+tallied-none (suc k) (b ∷ s) t h e = rw e
 
--- so far `seen` of the cases are counted
-abbrev pub Counted : List ℕ → ℕ → ℕ → ℕ → Type 0
-Counted s at seen passed = tallied (length s - seen) s (tally at seen passed) ≡ tally_of s
+-- `seen` of the cases are counted, and this is what is left of the text
+abbrev pub Counted : List ℕ → List ℕ → ℕ → ℕ → Type 0
+Counted s rest seen passed = (length rest + seen ≤ length s) × (tallied (length s - seen) rest (tally seen passed) ≡ tally_of s)
 
-pub counted_none : (s : List ℕ) → Counted s 0 0 0
+pub counted_none : (s : List ℕ) → Counted s s 0 0
 unfolding tally_of
 counted_none s =
     let z : length s - 0 ≡ length s = omega arith in
-    ap (λ (k : ℕ). tallied k s (tally 0 0 0)) z
+    (omega arith, ap (λ (k : ℕ). tallied k s (tally 0 0)) z)
 
-module _ (s : List ℕ) (at seen passed a b : ℕ) (is : Counted s at seen passed) (ea : a ≡ length_at s at) (eb : b ≡ length_at s (at + 8)) where
-  pub counted-more : (one : ℕ) → seen < length s → at + 16 + a + b ≤ length s → one ≡ cond (passing (take (at + 16 + a - (at + 16)) (drop (at + 16) s)) (take (at + 16 + a + b - (at + 16 + a)) (drop (at + 16 + a) s))) 1 0 → Counted s (at + 16 + a + b) (seen + 1) (passed + one)
-  unfolding counted end_of input_at due_at
-  counted-more one h w o =
-      let p : at + 16 + a - (at + 16) ≡ a = omega arith in
-      let q : at + 16 + a + b - (at + 16 + a) ≡ b = omega arith in
-      let k : length s - (seen + 1) ≡ length s - seen - 1 = omega arith in
-      rw (k, o, p, q, ea, eb) (sym (tallied-more (length s - seen) s (tally at seen passed) (omega arith) (omega arith)) ∙ is)
+pub counted_more : (s rest : List ℕ) (seen passed one : ℕ) {c : Whole} → Counted s rest seen passed → 0 < length rest → case_of rest ≡ Some c → one ≡ cond (passing c.0 c.1) 1 0 → Counted s c.2 (seen + 1) (passed + one)
+counted_more s rest seen passed one is h e o =
+    let k : length s - (seen + 1) ≡ length s - seen - 1 = omega arith in
+    (omega (arith, rest_shorter rest e), rw (k, o) (sym (tallied-more (length s - seen) rest (tally seen passed) (omega (arith, is.0)) h e) ∙ is.1))
 
-  pub counted-whole : length s < at + 16 + a + b → tally at seen passed ≡ tally_of s
-  unfolding end_of
-  counted-whole h = sym (tallied-end (length s - seen) s (tally at seen passed) (omega arith)) ∙ is
+pub counted_all : (s rest : List ℕ) (seen passed : ℕ) → Counted s rest seen passed → length rest ≡ 0 → Some (tally seen passed) ≡ tally_of s
+unfolding tallied
+counted_all s [] seen passed is h = is.1
+counted_all s (b ∷ t) seen passed is h = absurd (omega arith)
 
--- less than a first line is left
-pub counted-rest : (s : List ℕ) (at seen passed : ℕ) → Counted s at seen passed → length s < at + 16 → tally at seen passed ≡ tally_of s
-counted-rest s at seen passed is h = counted-whole s at seen passed _ _ is refl refl (omega arith)
+pub counted_part : (s rest : List ℕ) (seen passed : ℕ) → Counted s rest seen passed → 0 < length rest → case_of rest ≡ None → None ≡ tally_of s
+counted_part s rest seen passed is h e = sym (tallied-none (length s - seen) rest (tally seen passed) h e) ∙ is.1
 
 -- what a verdict adds
 pub one_or_none : (b : Bool) → from_bool b ≤ 1

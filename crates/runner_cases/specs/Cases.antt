@@ -1,7 +1,8 @@
 -- The runner's cases in a file: each is a line with two lengths of seven digits, the input's and the output's, then the input and the output.
-use Rattle.std.specs.Prelude.{Bool, true, false, cond, ◌&&◌, List, [], ◌∷◌, ◌++◌, ℕ, zero, suc, ◌+◌, ◌*◌, ◌-◌, length, take, drop, get_or, ltb, leb, eqb}
+use Rattle.std.specs.Prelude.{Bool, true, false, cond, ◌&&◌, List, [], ◌∷◌, ◌++◌, ℕ, zero, suc, ◌+◌, ◌*◌, ◌-◌, length, take, drop, get_or, ltb, leb, eqb, Option, Some, None}
 use Rattle.printing.specs.Decimal.{decimal}
 use Rattle.image_run.specs.Image.{printed}
+use Rattle.runner_cases.specs.declared.Case.{Case}
 use Rattle.runner_cases.specs.declared.Tally.{Tally}
 
 -- Another byte than a digit counts as 0.
@@ -11,19 +12,29 @@ digit_of b = cond (ltb b 48) 0 (cond (ltb b 58) (b - 48) 0)
 abbrev pub digit_at : List ℕ → ℕ → ℕ
 digit_at s i = digit_of (get_or s i 0)
 
--- The number of seven digits at a place.
-unfoldable pub length_at : List ℕ → ℕ → ℕ
-length_at s at =
-    digit_at s at * 1000000 + digit_at s (at + 1) * 100000 + digit_at s (at + 2) * 10000 + (digit_at s (at + 3) * 1000 + digit_at s (at + 4) * 100 + digit_at s (at + 5) * 10) + digit_at s (at + 6)
+-- The number of seven digits that a text begins with.
+unfoldable pub length_of : List ℕ → ℕ
+length_of s =
+    digit_at s 0 * 1000000 + digit_at s 1 * 100000 + digit_at s 2 * 10000 + (digit_at s 3 * 1000 + digit_at s 4 * 100 + digit_at s 5 * 10) + digit_at s 6
 
-unfoldable pub input_at : List ℕ → ℕ → List ℕ
-input_at s at = take (length_at s at) (drop (at + 16) s)
+-- A case: the input, the output that is due, and what is behind.
+abbrev pub Whole : Type 0
+Whole = List ℕ × List ℕ × List ℕ
 
-unfoldable pub due_at : List ℕ → ℕ → List ℕ
-due_at s at = take (length_at s (at + 8)) (drop (at + 16 + length_at s at) s)
+abbrev pub whole : ℕ → ℕ → List ℕ → Whole
+whole a b s = (take a s, take b (drop a s), drop b (drop a s))
 
-unfoldable pub end_of : List ℕ → ℕ → ℕ
-end_of s at = at + 16 + length_at s at + length_at s (at + 8)
+-- The case that a text begins with, if one stands whole there.
+unfoldable pub case_of : List ℕ → Option Whole
+case_of s =
+    let line = take 16 s in
+    let a = length_of (take 7 line) in
+    let b = length_of (take 7 (drop 8 line)) in
+    cond (leb (16 + a + b) (length s)) (Some (whole a b (drop 16 s))) None
+
+abbrev pub case_told : Option Case → Option Whole
+case_told None = None
+case_told (Some c) = Some (c.input.now, c.due.now, c.rest.now)
 
 unfoldable pub same_text : List ℕ → List ℕ → Bool
 same_text [] [] = true
@@ -35,21 +46,26 @@ same_text (a ∷ s) (b ∷ t) = eqb a b && same_text s t
 unfoldable pub passing : List ℕ → List ℕ → Bool
 passing input due = same_text (printed input) due
 
-abbrev pub tally : ℕ → ℕ → ℕ → Tally
-tally at seen passed = record { at = at; seen = seen; passed = passed }
+abbrev pub tally : ℕ → ℕ → Tally
+tally seen passed = record { seen = seen; passed = passed }
 
--- The case at a place is seen.
-unfoldable pub counted : List ℕ → Tally → Tally
-counted s t = tally (end_of s t.at) (t.seen + 1) (t.passed + cond (passing (input_at s t.at) (due_at s t.at)) 1 0)
+-- One case more is seen.
+abbrev pub counted : Whole → Tally → Tally
+counted c t = tally (t.seen + 1) (t.passed + cond (passing c.0 c.1) 1 0)
 
--- Up to k cases; ends where a case does not stand whole.
-unfoldable pub tallied : ℕ → List ℕ → Tally → Tally
-tallied zero s t = t
-tallied (suc k) s t = cond (leb (end_of s t.at) (length s)) (tallied k s (counted s t)) t
+abbrev pub if_whole : Option Whole → (Whole → Option Tally) → Option Tally
+if_whole None next = None
+if_whole (Some c) next = next c
+
+-- Up to k cases; none where the text ends within a case.
+unfoldable pub tallied : ℕ → List ℕ → Tally → Option Tally
+tallied k [] t = Some t
+tallied zero (b ∷ s) t = None
+tallied (suc k) (b ∷ s) t = if_whole (case_of (b ∷ s)) (λ c. tallied k c.2 (counted c t))
 
 -- A file has fewer cases than bytes.
-unfoldable pub tally_of : List ℕ → Tally
-tally_of s = tallied (length s) s (tally 0 0 0)
+unfoldable pub tally_of : List ℕ → Option Tally
+tally_of s = tallied (length s) s (tally 0 0)
 
 -- `: passed `, ` of `, `: ends within a case`
 abbrev pub passed_name : List ℕ
@@ -61,9 +77,10 @@ of_name = 32 ∷ 111 ∷ 102 ∷ 32 ∷ []
 abbrev pub ends_name : List ℕ
 ends_name = 58 ∷ 32 ∷ 101 ∷ 110 ∷ 100 ∷ 115 ∷ 32 ∷ 119 ∷ 105 ∷ 116 ∷ 104 ∷ 105 ∷ 110 ∷ 32 ∷ 97 ∷ 32 ∷ 99 ∷ 97 ∷ 115 ∷ 101 ∷ 10 ∷ []
 
--- What is said of a file of n bytes: the numbers of the tally, where it is a file of whole cases.
+-- What is said of a file: the numbers of the tally, where it is a file of whole cases.
 unfoldable pub passed_text : Tally → List ℕ
 passed_text t = passed_name ++ (decimal t.passed ++ (of_name ++ (decimal t.seen ++ (10 ∷ []))))
 
-unfoldable pub verdict_text : Tally → ℕ → List ℕ
-verdict_text t n = cond (eqb t.at n) (passed_text t) ends_name
+unfoldable pub verdict_text : Option Tally → List ℕ
+verdict_text None = ends_name
+verdict_text (Some t) = passed_text t

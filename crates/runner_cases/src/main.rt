@@ -2,8 +2,8 @@
 // lengths of seven digits, the input's and the output's, then the input and the output.
 #![tactic(auto)]
 
-ghost use Rattle.std.specs.Prelude.{◌≡◌, ◌+◌, ◌≤◌, length};
-ghost use Rattle.runner_cases.specs.Cases.{digit_of, length_at, passing, tally_of, passed_text, verdict_text};
+ghost use Rattle.std.specs.Prelude.{◌≡◌, ◌≤◌, length};
+ghost use Rattle.runner_cases.specs.Cases.{digit_of, length_of, case_told, case_of, passing, tally_of, passed_text, verdict_text};
 
 use printing::Text;
 use std::env;
@@ -12,14 +12,22 @@ use std::os::fd::AsRawFd;
 
 const STDOUT: i32 = 1;
 
-// How far the cases got.
+// The cases seen so far, and how many of them gave what is due.
 #[derive(Clone, Copy)]
 struct Tally {
-    at: usize,
     seen: u64,
     passed: u64,
 }
 
+// A case at the front of a text, and what is behind it.
+#[derive(Clone, Copy)]
+struct Case<'a> {
+    input: &'a [u8],
+    due: &'a [u8],
+    rest: &'a [u8],
+}
+
+// Another byte counts as 0, as the definition of a case has it, so no Option.
 #[tactic(auto, unfolding(crate::specs::Cases::digit_of))]
 fn digit(b: u8) -> usize
     ensures value { result ≡ digit_of b }
@@ -31,18 +39,28 @@ fn digit(b: u8) -> usize
     }
 }
 
-// The number of seven digits at `at`.
-fn length_at(s: &[u8], at: usize) -> usize
-    requires { at + 7 ≤ length s.now }
-    ensures value { result ≡ length_at s.now at }
+// The number that seven digits say.
+fn number(digits: &[u8]) -> usize
+    requires { length digits.now ≡ 7 }
+    ensures value { result ≡ length_of digits.now }
     ensures upper_bound { result ≤ 9999999 }
 {
-    let digits = &s[at..at + 7];
     let mut n = 0;
     for b in digits {
         n = n * 10 + digit(*b);
     }
     n
+}
+
+// The case at the front, if one stands whole there.
+#[tactic(auto, unfolding(crate::specs::Cases::case_of))]
+fn first_case(s: &[u8]) -> Option<Case<'_>>
+    ensures { case_told result ≡ case_of s.now }
+{
+    let (line, rest) = s.split_at_checked(16)?;
+    let (input, rest) = rest.split_at_checked(number(&line[..7]))?;
+    let (due, rest) = rest.split_at_checked(number(&line[8..15]))?;
+    Some(Case { input, due, rest })
 }
 
 // Whether the runner's text is the one that is due.
@@ -62,33 +80,23 @@ fn tell(passed: bool, seen: u64) {
     }
 }
 
-// Ends where a case does not stand whole.
-fn replay(s: &[u8]) -> Tally
+// None where the text ends within a case. A while, and no iterator: where a case ends its own lengths say, and each that fails is told by its
+// number.
+fn replay(s: &[u8]) -> Option<Tally>
     ensures { result ≡ tally_of s.now }
 {
-    let mut at: usize = 0;
+    let mut rest = s;
     let mut seen: u64 = 0;
     let mut passed: u64 = 0;
-    while at < s.len() {
-        let left = s.len() - at;
-        if left < 16 {
-            break;
-        }
-        let a = length_at(s, at);
-        let b = length_at(s, at + 8);
-        if left - 16 < a + b {
-            break;
-        }
-        let i = at + 16;
-        let j = i + a;
-        let k = j + b;
-        let one = passes(&s[i..j], &s[j..k]);
+    while !rest.is_empty() {
+        let case = first_case(rest)?;
+        let one = passes(case.input, case.due);
         seen += 1;
         passed += u64::from(one);
         tell(one, seen);
-        at = k;
+        rest = case.rest;
     }
-    Tally { at, seen, passed }
+    Some(Tally { seen, passed })
 }
 
 #[tactic(auto, using(printing::proofs::Laws::texts), unfolding(crate::specs::Cases::passed_text))]
@@ -104,12 +112,12 @@ fn passed(t: Tally) -> Text<64>
     text
 }
 
-// What is said of a file of n bytes.
+// What is said of a file.
 #[tactic(auto, unfolding(crate::specs::Cases::verdict_text))]
-fn verdict(t: Tally, n: usize) -> Text<64>
-    ensures { result ≡ verdict_text t n }
+fn verdict(tally: Option<Tally>) -> Text<64>
+    ensures { result ≡ verdict_text tally }
 {
-    if t.at == n {
+    if let Some(t) = tally {
         return passed(t);
     }
     let mut text = Text::new();
@@ -126,7 +134,7 @@ fn replay_file(rt: &HostRuntime, path: &str) -> std::io::Result<()> {
     // A file of cases is shorter than this.
     let mut text = [0u8; 65536];
     let n = io::read_full(file.as_raw_fd(), &mut text);
-    let said = verdict(replay(&text[..n]), n);
+    let said = verdict(replay(&text[..n]));
     io::write_all(STDOUT, path.as_bytes());
     io::write_all(STDOUT, said.as_bytes());
     Ok(())

@@ -22,7 +22,8 @@ use Rattle.std.specs.Int.Signed.{lt_z}
 use Rattle.std.specs.Option.{unwrap_or}
 use Rattle.std.proofs.lemmas.Option.{none-some}
 use Rattle.memory.specs.declared.Write.{Write}
-use Rattle.runtime.specs.declared.Stop.{Stop}
+use Rattle.definition.specs.declared.Stop.{Stop}
+use Rattle.definition.specs.declared.Stop.TheVariants.{NoHandler, CyclesFull}
 use Rattle.runtime.specs.Meaning.{outcome_of}
 use Rattle.memory.specs.Overlay.{overlay}
 use Rattle.memory.proofs.Laws.{get_in, length_over}
@@ -56,7 +57,7 @@ unfolding limit reached
 end_in m x (Ok u) h = rw (lt-ltb _ _ h) refl
 end_in m x (Err s) h = rw (lt-ltb _ _ h) refl
 
-pub end_out : (m x : Machine) (r : Result (Unit {0}) Stop) → CYCLES-END ≤ x.cycles → limit m (outcome_of r x) ≡ stopped 7 0 m
+pub end_out : (m x : Machine) (r : Result (Unit {0}) Stop) → CYCLES-END ≤ x.cycles → limit m (outcome_of r x) ≡ stopped CyclesFull m
 unfolding limit reached
 end_out m x (Ok u) h = rw (le-ltb _ _ h) refl
 end_out m x (Err s) h = rw (le-ltb _ _ h) refl
@@ -69,23 +70,23 @@ pub entered_cycles : (k : ℕ) (m : Machine) → (entered k m).cycles ≡ m.cycl
 unfolding entered
 entered_cycles k m = omega arith
 
-pub entered_out : (m x : Machine) (k : ℕ) → CYCLES-END ≤ x.cycles + 1 → limit m (completed (entered k x)) ≡ stopped 7 0 m
+pub entered_out : (m x : Machine) (k : ℕ) → CYCLES-END ≤ x.cycles + 1 → limit m (completed (entered k x)) ≡ stopped CyclesFull m
 entered_out m x k h = end_out m (entered k x) (Ok tt) (omega (arith, entered_cycles k x))
 
-pub elapsed_out : (m x : Machine) (k : ℕ) → CYCLES-END ≤ x.cycles + 1 → limit m (completed (elapsed k (entered k x))) ≡ stopped 7 0 m
+pub elapsed_out : (m x : Machine) (k : ℕ) → CYCLES-END ≤ x.cycles + 1 → limit m (completed (elapsed k (entered k x))) ≡ stopped CyclesFull m
 elapsed_out m x k h = end_out m (elapsed k (entered k x)) (Ok tt) (omega (arith, entered_cycles k x))
 
-pub stopped_in : (m x : Machine) (n d : ℕ) → x.cycles < CYCLES-END → limit m (stopped n d x) ≡ stopped n d x
-stopped_in m x n d h = end_in m x (Err (record { number = n; detail = d })) h
+pub stopped_in : (m x : Machine) (s : Stop) → x.cycles < CYCLES-END → limit m (stopped s x) ≡ stopped s x
+stopped_in m x s h = end_in m x (Err s) h
 
-pub stopped_out : (m x : Machine) (n d : ℕ) → CYCLES-END ≤ x.cycles → limit m (stopped n d x) ≡ stopped 7 0 m
-stopped_out m x n d h = end_out m x (Err (record { number = n; detail = d })) h
+pub stopped_out : (m x : Machine) (s : Stop) → CYCLES-END ≤ x.cycles → limit m (stopped s x) ≡ stopped CyclesFull m
+stopped_out m x s h = end_out m x (Err s) h
 
 pub recover_in : (k : ℕ) (m : Machine) → has_handler m.core.cells ≡ true → recover k m ≡ completed (entered k m)
 unfolding recover
 recover_in k m h = rw h refl
 
-pub recover_out : (k : ℕ) (m : Machine) → has_handler m.core.cells ≡ false → recover k m ≡ stopped 2 k m
+pub recover_out : (k : ℕ) (m : Machine) → has_handler m.core.cells ≡ false → recover k m ≡ stopped (NoHandler k) m
 unfolding recover
 recover_out k m h = rw h refl
 

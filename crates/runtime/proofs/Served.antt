@@ -8,6 +8,7 @@ use Rattle.definition.specs.declared.Executed.{Executed}
 use Rattle.definition.specs.Registers.{supervisor}
 use Rattle.definition.specs.Exception.{ending}
 use Rattle.definition.specs.declared.Request.TheVariants.{Reads, Writes}
+use Rattle.definition.specs.declared.Stop.TheVariants.{OutputFull}
 use Rattle.definition.specs.Memory.{word}
 use Rattle.definition.specs.Io.{Console, read_port, write_port, output_full}
 use Rattle.definition.specs.Timer.{set_timer, tick, read_timer}
@@ -31,7 +32,7 @@ module _ (m : Machine) (p : ℕ) (r : Reg) (cost : ℕ) (c d : Core) (n : ℕ) (
   unfolding conclude
   served_err x f = concluded_as (err x d) f
 
-pub served_full : (m : Machine) (p : ℕ) (w : ℤ) (cost : ℕ) (c : Core) → output_full p m.console ≡ true → stops 6 0 m ≡ serve m (Writes p w) cost c
+pub served_full : (m : Machine) (p : ℕ) (w : ℤ) (cost : ℕ) (c : Core) → output_full p m.console ≡ true → stops OutputFull m ≡ serve m (Writes p w) cost c
 unfolding serve
 served_full m p w cost c h = rw h refl
 

@@ -1,8 +1,8 @@
-// What a step does to the machine, decided and not yet written.
+// What a step does to the machine, decided and not yet written. What contracts ask of it (Room, plan_only) is said of the machine and the
+// output record beside it, so no ghost field can hold it.
 
-ghost use Rattle.std.specs.Prelude.{◌≡◌, List, ℤ, ℕ};
-ghost use Rattle.row.specs.Meaning.{machine_at};
-ghost use Rattle.runtime.specs.Meaning.{effects_at};
+ghost use Rattle.std.specs.Prelude.{◌≡◌, None};
+ghost use Rattle.runtime.specs.Meaning.{plan_only};
 
 use console::ConsoleState;
 use definition::Timer;
@@ -22,7 +22,7 @@ pub struct Effects {
 impl Effects {
     // Nothing is done yet.
     pub(crate) fn none(m: &State) -> Effects
-        ensures { result ≡ record { plan = record { s = m.now.s; write = None }; cycles = m.now.cycles; k = m.now.k; timer = m.now.timer; byte = None } }
+        ensures { result ≡ plan_only m.now (record { s = m.now.s; write = None }) }
     {
         Effects {
             plan: Plan {
@@ -33,16 +33,6 @@ impl Effects {
             k: m.k,
             timer: m.timer,
             byte: None,
-        }
-    }
-
-    // The instruction's part is done.
-    pub(crate) fn planned(m: &State, plan: Plan) -> Effects
-        ensures { result ≡ record { plan = plan; cycles = m.now.cycles; k = m.now.k; timer = m.now.timer; byte = None } }
-    {
-        Effects {
-            plan,
-            ..Effects::none(m)
         }
     }
 }

@@ -2,11 +2,14 @@
 
 ghost use Rattle.std.specs.Prelude.{◌≡◌, ◌≤◌, ◌<◌, ◌+◌, ◌^◌, ℤ, ℕ, List};
 ghost use Rattle.definition.specs.Memory.{cell_count};
+ghost use Rattle.definition.specs.Registers.{with_sr};
 ghost use Rattle.definition.specs.Runtime.{has_handler, saved, entered_sr, entered};
 ghost use Rattle.memory.specs.Overlay.{overlay};
 ghost use Rattle.row.specs.Meaning.{machine_at};
 
+use definition::Registers;
 use memory::Write;
+use registers::Flag;
 use row::State;
 
 // "if cell 200 is no instruction", once the write that waits is made
@@ -34,14 +37,12 @@ fn save(cells: &mut [i64], pc: u32, sr: i64, code: u32)
 
 // "S is set", "Code 0 also clears I."
 #[tactic(auto, using(word::proofs::Laws::back, crate::proofs::Laws::entered_zero, crate::proofs::Laws::entered_suc))]
-pub fn entered_sr(code: u32, sr: i64) -> i64
-    ensures { result ≡ entered_sr code sr }
+fn put_flags(s: &mut Registers, code: u32)
+    ensures { s.new ≡ with_sr (entered_sr code s.old.sr) s.old }
 {
-    let w = word::put_bit(sr, 9, true);
+    registers::put_flag(s, Flag::Supervisor, true);
     if code == 0 {
-        word::put_bit(w, 8, false)
-    } else {
-        w
+        registers::put_flag(s, Flag::InterruptEnable, false);
     }
 }
 
@@ -54,6 +55,6 @@ pub fn enter(cells: &mut [i64], m: &mut State, code: u32)
 {
     save(cells, m.s.pc, m.s.sr, code);
     m.s.pc = 200;
-    m.s.sr = entered_sr(code, m.s.sr);
+    put_flags(&mut m.s, code);
     m.cycles += 1;
 }

@@ -8,6 +8,7 @@ ghost use Rattle.definition.specs.Exec.{Core};
 ghost use Rattle.definition.specs.Runtime.{fetch, attempt, or_instruction};
 ghost use Rattle.registers.specs.Meaning.{res_of, core_of};
 
+use arguments::Seen;
 use definition::{Cell, Error, Executed, Instruction};
 use registers::Plan;
 
@@ -33,7 +34,7 @@ pub fn fetch(cells: &[i64], p: &mut Plan) -> Result<Instruction, Error>
     ensures write { p.new.write ≡ None }
     ensures cheap { IfOk result (λ i. i.cycles ≤ 3) }
 {
-    let v = arguments::read(cells, p, p.s.pc)?;
+    let v = arguments::read(&Seen(cells, p.write), p.s.pc)?;
     p.s.pc += 1;
     decoded(v)
 }

@@ -9,18 +9,10 @@ use row::State;
 
 pub mod commit;
 pub mod effects;
-pub mod ending;
 pub mod entry;
 pub mod fetch;
 pub mod settle;
 pub mod turn;
-
-// A stop's number, with its detail.
-#[derive(Clone, Copy)]
-pub struct Stop {
-    pub number: u32,
-    pub detail: u32,
-}
 
 // The first address that a step from m may write: the fence binds "a step begun with S clear".
 pub fn guard(m: &State) -> u32

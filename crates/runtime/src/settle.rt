@@ -1,6 +1,7 @@
 // The end of a step, from where it arrived: decided, then written. And a raise, which has nothing to write before entry.
 
 ghost use Rattle.std.specs.Prelude.{◌≡◌, ◌≤◌, ◌<◌, ◌+◌, ◌^◌, true, List, ℕ, length, MatchResult};
+ghost use Rattle.definition.specs.declared.Stop.TheVariants.{CyclesFull};
 ghost use Rattle.definition.specs.Constants.{CYCLES-END};
 ghost use Rattle.definition.specs.Memory.{cell_count};
 ghost use Rattle.definition.specs.Runtime.{settle, limit, recover, has_handler, entered, elapsed, completed};
@@ -8,28 +9,23 @@ ghost use Rattle.memory.specs.Overlay.{overlay};
 ghost use Rattle.row.specs.Meaning.{machine_at};
 ghost use Rattle.runtime.specs.Meaning.{effects_at, turn_of, outcome_of, Room};
 
-use crate::Stop;
 use crate::commit::commit;
 use crate::effects::Effects;
 use crate::entry::{enter, has_handler};
-use crate::turn::{Arrival, Turn};
+use crate::turn::Turn;
+use definition::{Ending, Stop};
 use row::State;
 
-const NO_HANDLER: u32 = 2;
-
-const CYCLES_FULL: u32 = 7;
-
 // "7 the step would pass 2^63 - 1 cycles"
+pub const CYCLES_END: u64 = 0x8000_0000_0000_0000;
+
 fn within(cycles: u64) -> Result<(), Stop>
-    ensures { MatchResult result (λ u. cycles < CYCLES-END) (λ e. (CYCLES-END ≤ cycles) × (e ≡ record { number = 7; detail = 0 })) }
+    ensures { MatchResult result (λ u. cycles < CYCLES-END) (λ e. (CYCLES-END ≤ cycles) × (e ≡ CyclesFull)) }
 {
-    if cycles < 0x8000_0000_0000_0000 {
+    if cycles < CYCLES_END {
         Ok(())
     } else {
-        Err(Stop {
-            number: CYCLES_FULL,
-            detail: 0,
-        })
+        Err(Stop::CyclesFull)
     }
 }
 
@@ -71,7 +67,7 @@ fn finish_entering(
     Ok(())
 }
 
-#[tactic(auto, using(crate::proofs::Laws::recover_in, crate::proofs::Laws::recover_out), unfolding(definition::specs::Runtime::settle, definition::specs::Runtime::elapses))]
+#[tactic(auto, using(crate::proofs::Laws::recover_in, crate::proofs::Laws::recover_out), unfolding(definition::specs::Runtime::settle, definition::specs::Runtime::ends, definition::specs::Runtime::elapses))]
 pub fn settle(cells: &mut [i64], output: &mut [u8], m: &mut State, turn: Turn) -> Result<(), Stop>
     requires least { 256 ≤ cell_count cells.old }
     requires cycles { turn.effects.cycles + 1 < 2 ^ 64 }
@@ -80,25 +76,16 @@ pub fn settle(cells: &mut [i64], output: &mut [u8], m: &mut State, turn: Turn) -
 {
     let f = turn.effects;
     match turn.arrival {
-        Arrival::Completes => finish(cells, output, m, f, Ok(())),
-        Arrival::Stops(number, detail) => finish(cells, output, m, f, Err(Stop { number, detail })),
-        Arrival::Enters(code) => {
+        Ok(()) => finish(cells, output, m, f, Ok(())),
+        Err(Ending::Stops(stop)) => finish(cells, output, m, f, Err(stop)),
+        Err(Ending::Exception(code)) => {
+            // "if cell 200 is no instruction, stop with that code"
             if has_handler(cells, f.plan.write) {
                 finish_entering(cells, output, m, f, code)
             } else {
-                finish(cells, output, m, f, Err(no_handler(code)))
+                finish(cells, output, m, f, Err(Stop::NoHandler(code)))
             }
         }
-    }
-}
-
-// "if cell 200 is no instruction, stop with that code"
-fn no_handler(code: u32) -> Stop
-    ensures { result ≡ record { number = 2; detail = code } }
-{
-    Stop {
-        number: NO_HANDLER,
-        detail: code,
     }
 }
 
@@ -111,7 +98,7 @@ pub fn raise(cells: &mut [i64], m: &mut State, code: u32) -> Result<(), Stop>
 {
     if !has_handler(cells, None) {
         within(m.cycles)?;
-        return Err(no_handler(code));
+        return Err(Stop::NoHandler(code));
     }
     within(m.cycles + 1)?;
     enter(cells, m, code);

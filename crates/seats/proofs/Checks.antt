@@ -1,5 +1,5 @@
 -- The seats from place k on, checked one after another.
-use mathlib.Core.Path.{◌≡◌, sym, ap, ◌∙◌}
+use mathlib.Core.Path.{◌≡◌, refl, sym, ap, ◌∙◌, subst}
 use mathlib.Core.Bool.{Bool, true, false, cond}
 use mathlib.Core.List.{◌∷◌}
 use Prim.Native.Nat.{ℕ, suc, ◌+◌, ◌-◌, ◌<◌, ◌≤◌}
@@ -11,6 +11,10 @@ use Rattle.definition.specs.Calls.{Lent, accepted, passes, run_check}
 use Rattle.definition.specs.Answers.{number_of, place_of, refused}
 use Rattle.definition.proofs.Checked.{number_some}
 use Rattle.bench.specs.declared.Benched.{Benched}
+use Rattle.bench.specs.declared.Refused.{Refused}
+use Rattle.std.specs.Prelude.{Result, Ok, Err, MatchResult}
+use Rattle.std.specs.Result.{IsErrAnd}
+use Rattle.std.proofs.lemmas.Result.{err_from_is_err_and}
 use Rattle.bench.specs.Bench.{machine_at, machines, benched, seat_by_seat}
 
 module _ (n : ℕ) (b : Lent) where
@@ -46,3 +50,19 @@ module _ (n : ℕ) (b : Lent) where
 
   pub from_first : check_from 0 ≡ seat_by_seat 1 (machines n n 0 b)
   from_first = let e : n - 0 ≡ n = omega arith in ap (λ (j : ℕ). seat_by_seat 1 (machines n j 0 b)) e
+
+-- a test's answer, and the same with the seat's number beside the refusal
+abbrev pub Numbered : (Refusal → Refused → Type 0) → Result (Unit {0}) Refusal → Result (Unit {0}) Refused → Type 0
+Numbered P r s = MatchResult r (λ x. s ≡ Ok x) (λ e. IsErrAnd s (P e))
+
+ok-err : (u : Unit {0}) (d : Refused) (s : Result (Unit {0}) Refused) → s ≡ Ok u → s ≡ Err d → ⊥
+ok-err u d s f g = let h : ◌≡◌ {A = Result (Unit {0}) Refused} (Ok u) (Err d) = sym f ∙ g in cc
+
+pub refused-was : (P : Refusal → Refused → Type 0) (r : Result (Unit {0}) Refusal) (s : Result (Unit {0}) Refused) → Numbered P r s → (d : Refused) → s ≡ Err d → (e : Refusal) × ((r ≡ Err e) × P e d)
+refused-was P (Ok u) s h d f = absurd (ok-err u d s h f)
+refused-was P (Err e) s h d f =
+    let p = err_from_is_err_and s h in let z : p.0 ≡ d = let y = sym p.1 ∙ f in cc in (e, (refl, subst (P e) z p.2))
+
+pub passed-was : (P : Refusal → Refused → Type 0) (r : Result (Unit {0}) Refusal) (s : Result (Unit {0}) Refused) → Numbered P r s → (u : Unit {0}) → s ≡ Ok u → r ≡ Ok tt
+passed-was P (Ok v) s h u f = refl
+passed-was P (Err e) s h u f = let p = err_from_is_err_and s h in absurd (ok-err u p.0 s f p.1)

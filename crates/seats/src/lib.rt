@@ -25,7 +25,8 @@ pub struct Buffers<'a> {
 }
 
 impl Buffers<'_> {
-    // "places within the seat"
+    // "places within the seat", which is at place k of n. No struct of the two, nor n in Buffers: k
+    // goes over the seats, and the buffers stand before n is known to be 1 to 16.
     pub fn seat_check(&self, n: usize, k: usize) -> Result<(), Refusal>
         requires { k < n }
         ensures { done_of result ≡ run_check (machine_at n k (lent_of self.now)) }
@@ -43,9 +44,8 @@ impl Buffers<'_> {
         ensures { checked_of result ≡ seat_by_seat 1 (machines n n 0 (lent_of self.now)) }
     {
         for k in 0..n {
-            if let Err(e) = self.seat_check(n, k) {
-                return Err(Refused::Machine(k as u64 + 1, e));
-            }
+            self.seat_check(n, k)
+                .map_err(|e| Refused::Machine(k as u64 + 1, e))?;
         }
         Ok(())
     }

@@ -14,7 +14,7 @@ use Rattle.assembly.specs.Assemble.{assemble_call}
 use Rattle.lines.specs.declared.Reader.{Reader}
 use Rattle.lines.specs.declared.Start.{Start}
 use Rattle.source.specs.declared.Refused.{Refused}
-use Rattle.lines.specs.Reader.{opened, broken, within, following, start_line}
+use Rattle.lines.specs.Reader.{has_digits, opened, broken, within, following, start_line}
 
 -- "A file over 32,768 bytes is 13 at the line where it passes them, or 12 if that is the start line": the byte that passes them reads as 0, which no line may
 -- hold, and nothing behind it is looked at.
@@ -28,7 +28,7 @@ bounded file = cond (ltb LIMIT (length file)) (take LIMIT file ++ (0 ∷ [])) fi
 
 -- The first line is read as it was; these are its bytes, without its end.
 unfoldable pub start_end : Reader → Reader
-start_end r = cond r.broken r (cond (r.field.digits && eqb r.count 3) (start_line r) (broken r))
+start_end r = cond r.broken r (cond (has_digits r.field && eqb r.count 3) (start_line r) (broken r))
 
 unfoldable pub start_read : List ℕ → Reader
 start_read line = start_end (foldl within opened line)

@@ -5,18 +5,18 @@ pub mod message;
 pub mod numeric;
 
 ghost use Rattle.std.specs.Prelude.{◌≡◌};
+ghost use Rattle.definition.specs.Answers.{counted_of};
 ghost use Rattle.definition.specs.Calls.{called};
 ghost use Rattle.lines.specs.Reader.{opened, within};
 ghost use Rattle.source.specs.Source.{bounded, start_end, start_read, refused, is18, assembler_answer, judged, loading};
 
-use definition::Counted;
 use definition::answers::Refusal;
 use expression::text::split_line;
 use lines::line::following_line;
 use lines::{Reader, Start};
 use printing::Text;
 
-// Why a file is not loaded. No `Refusal`: whatever number the assembler's answer has is kept, and each of its places becomes a line of the file, that of 9 too.
+// Why a file is not loaded. No `Refusal`: each of the assembler's places becomes a line of the file, that of 9 too, which has none there.
 #[derive(Clone, Copy)]
 pub struct Refused {
     pub number: u64,
@@ -51,6 +51,7 @@ pub fn bounded(file: &[u8]) -> Text<32769>
     text
 }
 
+// As take_line_end at a first line, which here is all that is read.
 #[tactic(auto, unfolding(crate::specs::Source::start_end))]
 pub fn end_start(r: &mut Reader)
     ensures { r.new ≡ start_end r.old }
@@ -58,7 +59,7 @@ pub fn end_start(r: &mut Reader)
     if r.broken {
         return;
     }
-    if r.field.digits && r.count == 3 {
+    if r.field.magnitude.is_some() && r.count == 3 {
         r.take_start();
     } else {
         r.break_line();
@@ -78,30 +79,30 @@ pub fn read_start(line: &[u8]) -> Reader
     r
 }
 
-// "of 13 and 18 the lowest line counts, 18 on a tie"
+// "of 13 and 18 the lowest line counts, 18 on a tie". 0 < n holds of every line that is found; the definition asks it of any number.
 #[tactic(auto, unfolding(crate::specs::Source::is18))]
-pub fn is_18(a: Counted, n: u64) -> bool
-    ensures { result ≡ is18 a n }
+pub fn is_18(a: Result<u64, Refusal>, n: u64) -> bool
+    ensures { result ≡ is18 (counted_of a) n }
 {
-    0 < n && (a.refusal != 13 || n <= a.place)
+    0 < n && !matches!(a, Err(Refusal::Form(line)) if line < n)
 }
 
 // What the assembler answered, at a line of the file: lines count from the start line.
-pub fn assembled(a: Counted) -> Result<(), Refused>
-    ensures { result ≡ assembler_answer a }
+pub fn assembled(a: Result<u64, Refusal>) -> Result<(), Refused>
+    ensures { result ≡ assembler_answer (counted_of a) }
 {
-    if a.refusal == 0 {
-        return Ok(());
+    match a {
+        Ok(_) => Ok(()),
+        Err(e) => Err(Refused {
+            place: following_line(e.place()),
+            ..Refused::from(e)
+        }),
     }
-    Err(Refused {
-        number: a.refusal,
-        place: following_line(a.place),
-    })
 }
 
 #[tactic(auto, using(crate::proofs::Fronts::fronts), unfolding(crate::specs::Source::judged))]
-pub fn judge(a: Counted, numeric: Option<u64>) -> Result<(), Refused>
-    ensures { result ≡ judged a numeric }
+pub fn judge(a: Result<u64, Refusal>, numeric: Option<u64>) -> Result<(), Refused>
+    ensures { result ≡ judged (counted_of a) numeric }
 {
     match numeric {
         Some(n) if is_18(a, n) => Err(Refused::from(Refusal::NumericLine(following_line(n)))),
@@ -122,7 +123,7 @@ pub fn load(t: &[u8], cells: &mut [i64]) -> Result<Start, Refused>
     if r.broken {
         return Err(Refused::from(Refusal::ImageLine(1)));
     }
-    let a = assembler::assemble(program, cells);
+    let a = assembler::fill(program, cells);
     judge(a, numeric::lowest_numeric(program))?;
     Ok(r.start)
 }

@@ -38,7 +38,7 @@ pub fn put_number<const N: usize>(text: &mut Text<N>, place: u64)
     text.put_decimal(place);
 }
 
-// What a file is to have in the place of what is refused with this number.
+// What a file is to have in the place of what is refused with this number: all that Refused holds of why.
 #[tactic(auto, unfolding(crate::specs::Message::expected_text, crate::specs::Message::start_text, crate::specs::Message::grammar_text, crate::specs::Message::label_text, crate::specs::Message::numbers_text, crate::specs::Message::value_text))]
 pub fn expected(number: u64) -> &'static [u8]
     ensures { result.now ≡ expected_text number }

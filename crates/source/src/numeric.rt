@@ -15,7 +15,7 @@ pub fn skip_minus(s: &[u8]) -> &[u8]
     }
 }
 
-// What stands behind a number; nothing where there is none.
+// What stands behind a number; nothing where there is none. No Option: next a comma or a line end is asked for, and an empty rest has neither.
 pub fn skip_number(s: &[u8]) -> &[u8]
     ensures { result.now ≡ after_number s.now }
 {
@@ -59,7 +59,7 @@ pub fn line_after(b: u8, k: u64) -> u64
     if b == b'\n' { following_line(k) } else { k }
 }
 
-// The lowest such line.
+// The lowest such line. By bytes, not by `next_line`: a byte 0 ends a line there, and none here.
 pub fn lowest_numeric(s: &[u8]) -> Option<u64>
     ensures { result ≡ lowest_numeric s.now }
 {

@@ -1,12 +1,15 @@
-// instructions.rs, the instructions that may write a cell. None writes: the write waits in the plan.
+// instructions.rs, the instructions that may write a cell. None writes: the write waits in the plan. That none waits yet is asked by each: call and
+// fas may fail after theirs, which then stands, so that an answer could not carry it.
 #![tactic(auto)]
 
 ghost use Rattle.std.specs.Prelude.{◌≡◌, None};
-ghost use Rattle.definition.specs.Exec.{write, push};
+ghost use Rattle.definition.specs.Exec.{write, push, core};
 ghost use Rattle.definition.specs.Instructions.{call, push_op, st, fas, swap_back, swap, jump};
 ghost use Rattle.registers.specs.Meaning.{res_of, core_of};
+ghost use Rattle.arguments.specs.Seen.{cells_of};
 
-use definition::{Cell, Error, Operand, Reg};
+use arguments::Seen;
+use definition::{Cell, Error, Operand, Reg, Registers};
 use memory::Write;
 use registers::Plan;
 
@@ -40,7 +43,7 @@ pub fn push(cells: &[i64], guard: u32, p: &mut Plan, x: Operand) -> Result<(), E
     requires { p.old.write ≡ None }
     ensures { res_of result (core_of cells.now p.new) ≡ push_op guard x (core_of cells.now p.old) }
 {
-    let v = arguments::cell_of(cells, p, x)?;
+    let v = arguments::cell_of(&Seen(cells, p.write), &mut p.s, x)?;
     push_cell(cells, guard, p, v)
 }
 
@@ -56,11 +59,10 @@ pub fn st(cells: &[i64], guard: u32, p: &mut Plan, r: Reg, y: Operand) -> Result
 }
 
 #[tactic(auto, unfolding(registers::specs::Meaning::res_of, definition::specs::Instructions::jump, definition::specs::Exec::and_then))]
-pub fn jump(cells: &[i64], p: &mut Plan, x: Operand) -> Result<(), Error>
-    ensures value { res_of result (core_of cells.now p.new) ≡ jump x (core_of cells.now p.old) }
-    ensures write { p.new.write ≡ p.old.write }
+pub fn jump(seen: &Seen<'_>, s: &mut Registers, x: Operand) -> Result<(), Error>
+    ensures { res_of result (core (cells_of seen.now) s.new) ≡ jump x (core (cells_of seen.now) s.old) }
 {
-    p.s.pc = arguments::target_of(cells, p, x)?;
+    s.pc = arguments::target_of(seen, s, x)?;
     Ok(())
 }
 
@@ -72,7 +74,7 @@ pub fn call(cells: &[i64], guard: u32, p: &mut Plan, x: Operand) -> Result<(), E
 {
     let pc = memory::address_cell(p.s.pc);
     push_cell(cells, guard, p, pc)?;
-    jump(cells, p, x)
+    jump(&Seen(cells, p.write), &mut p.s, x)
 }
 
 // "fas writes word 1 before the register is set, so a refused register leaves the cell changed."
@@ -82,7 +84,7 @@ pub fn fas(cells: &[i64], guard: u32, p: &mut Plan, x: Operand, r: Reg) -> Resul
     ensures { res_of result (core_of cells.now p.new) ≡ fas guard x r (core_of cells.now p.old) }
 {
     let n = arguments::place_of(&mut p.s, x)?;
-    let v = arguments::read(cells, p, n)?;
+    let v = arguments::read(&Seen(cells, p.write), n)?;
     write_at(cells, guard, p, n, memory::word_cell(1))?;
     registers::put_reg(&mut p.s, r, v)
 }
@@ -106,7 +108,7 @@ pub fn swap(cells: &[i64], guard: u32, p: &mut Plan, x: Operand, r: Reg) -> Resu
     requires { p.old.write ≡ None }
     ensures { res_of result (core_of cells.now p.new) ≡ swap guard x r (core_of cells.now p.old) }
 {
-    let v = arguments::cell_of(cells, p, x)?;
+    let v = arguments::cell_of(&Seen(cells, p.write), &mut p.s, x)?;
     let old = registers::get_reg(&p.s, r);
     registers::put_reg(&mut p.s, r, v)?;
     swap_back(cells, guard, p, x, old)

@@ -1,21 +1,19 @@
 -- Laws of the operations on words: what the machine computes on 64 bits is what the definition says of numbers.
-use Rattle.std.specs.Prelude.{None, Some}
-use Rattle.std.proofs.Common.{◌≡◌, ℕ, zero, suc, ◌+◌, ◌-◌, ◌*◌, ◌/◌, ◌%◌, ◌^◌, ◌<◌, ◌≤◌, min, Bool, true, false, cond, not, ◌&&◌, ◌||◌, T, eqb, ltb, leb, ℤ, pos, negsuc, ◌+ℤ◌, ◌-ℤ◌, ◌*ℤ◌, neg_ℤ, nat_abs, sym, refl, ap, ◌∙◌, ap₂, true≢false, lt_of_lt_of_le, lt_of_le_of_lt, le_of_lt, mul-le-mul_right, mod-lt, mul_assoc, mul_comm, div-lt_iff_lt-mul, add-mul, mul-le-mul_left, one-mul, pow-suc, div-add-mod', le-div_iff_mul-le, zero-mul, mul-add, div-le_self, arith, pow_pos, pow_mono, shl_exact, to_z-of_z, w32, w64, Fits, SFits, to_z, of_z, ltb-false, ltb-true, le-ltb, lt-ltb, eq-eqb, ne_eqb, eqb-true}
-use mathlib.Core.Bool.{beq, and-true}
+use Rattle.std.proofs.Common.{◌≡◌, ℕ, zero, suc, ◌+◌, ◌-◌, ◌*◌, ◌/◌, ◌%◌, ◌^◌, ◌<◌, ◌≤◌, min, Bool, true, false, not, eqb, ltb, ℤ, pos, negsuc, ◌+ℤ◌, ◌-ℤ◌, ◌*ℤ◌, neg_ℤ, nat_abs, sym, refl, ap, ◌∙◌, ap₂, mul-le-mul_right, mul_assoc, mul_comm, div-lt_iff_lt-mul, add-mul, mul-le-mul_left, one-mul, pow-suc, div-add-mod', le-div_iff_mul-le, zero-mul, mul-add, arith, pow_pos, shl_exact, to_z-of_z, w64, Fits, SFits, to_z, of_z, ltb-false, ltb-true, le-ltb, lt-ltb, eq-eqb, ne_eqb, eqb-true}
+use Rattle.std.specs.Int.{int_wrapping_add, int_wrapping_sub}
+use Rattle.std.specs.Bool.{FalseIff}
+use mathlib.Core.Bool.{beq}
 use native.Mathlib.Nat.{mul-sub}
 use lib.IntN.{sub_ℕ}
-use lib.Dec.{leb-zero}
-use lib.Signed.{mag, lt_z, le_z, non_neg, quot_z, shr_z, mag_shr}
-use lib.Bits.{bit_and, bit_or, and_step, and_zero_l, and_mask, or_zero_r}
+use lib.Signed.{mag, lt_z}
+use lib.Bits.{bit_and, bit_or, and_step, and_zero_l, or_zero_r}
 use lib.Pow.{pow-lt}
 use mir.Val.{bool_byte}
-use mir.Facts.{to_z_pos, to_z-neg, sfits_lit}
+use mir.Facts.{Fits-of_z}
 use borrow.Author.Tests.{eqb-false}
-use Rattle.definition.specs.Word.{bits, wrap, is_word, eq_z, address_of, smallest, not_w, digit}
-use Rattle.definition.specs.Encoding.{is_address}
+use Rattle.definition.specs.Word.{bits, wrap, is_word, eq_z, digit}
 use Rattle.definition.proofs.Bits.{bits-of_z, put, put-here, and-bit, or-bit}
 use Rattle.definition.proofs.Words.{is_word_lem}
-use Rattle.definition.proofs.Row.{address-in}
 
 -- ---- cases of a test, of a difference, of bits
 
@@ -43,25 +41,6 @@ to_z-ind n P f g = ltb-elim n (2 ^ 63) (λ e h. rw e (f h)) (λ e h. rw e (g h))
 pub back : (z : ℤ) → mag z < 2 ^ 63 → to_z w64 (of_z w64 z) ≡ z
 back z h = to_z-of_z {w = w64} {z = z} (record { sfits = h })
 
--- a word by its bits
-pub of-bits-eq : (x : ℤ) (n : ℕ) → SFits w64 x → of_z w64 x ≡ n → x ≡ to_z w64 n
-of-bits-eq x n f e = sym (to_z-of_z f) ∙ ap (to_z w64) e
-
--- an operation of the bits
-pub on-bits : (op : ℕ → ℕ → ℕ) (a b : ℤ) → SFits w64 a → SFits w64 b → to_z w64 (op (of_z w64 a) (of_z w64 b)) ≡ to_z w64 (op (bits a) (bits b))
-on-bits op a b f g = ap (to_z w64) (ap₂ op (sym (bits-of_z a f)) (sym (bits-of_z b g)))
-
-pub not-bits : (z : ℤ) → SFits w64 z → to_z w64 ((2 ^ 64 - 1) - of_z w64 z) ≡ not_w z
-unfolding not_w
-not-bits (pos n) f = ap (to_z w64) (e n) ∙ to_z-neg w64 n f.sfits
-  where
-    e : (n : ℕ) → (2 ^ 64 - 1) - n ≡ 2 ^ 64 - suc n
-    e n = omega arith
-not-bits (negsuc n) f = ap (to_z w64) (e n f.sfits) ∙ to_z_pos w64 f.sfits
-  where
-    e : (n : ℕ) → n < 2 ^ 63 → (2 ^ 64 - 1) - (2 ^ 64 - suc n) ≡ n
-    e n h = omega arith
-
 -- ---- the sign
 
 -- what a test of the sign says
@@ -69,24 +48,12 @@ pub negative : (z : ℤ) → lt_z z (pos 0) ≡ true → z ≡ negsuc (mag z)
 negative (pos n) h = let k : n < 0 = ltb-true n 0 h in absurd (omega arith)
 negative (negsuc n) h = refl
 
-pub nonnegative : (z : ℤ) → lt_z z (pos 0) ≡ false → z ≡ pos (mag z)
-nonnegative (pos n) h = refl
-nonnegative (negsuc n) h = absurd (true≢false h)
-
 pub pos-sign : (n : ℕ) → lt_z (pos n) (pos 0) ≡ false
 pos-sign n = le-ltb n 0 (omega arith)
 
 -- whether two signs differ
 abbrev pub differ : ℤ → ℤ → Bool
 differ a b = not (beq (lt_z a (pos 0)) (lt_z b (pos 0)))
-
--- a negative word's complement, and a word that is not negative, cast to a `u64`
-pub neg-cast : (z : ℤ) → SFits w64 z → lt_z z (pos 0) ≡ true → T (non_neg (not_w z)) × Fits w64 (nat_abs (not_w z))
-unfolding not_w
-neg-cast z f h = rw (negative z h) (tt, omega (arith, f.sfits))
-
-pub pos-cast : (z : ℤ) → SFits w64 z → lt_z z (pos 0) ≡ false → T (non_neg z) × Fits w64 (nat_abs z)
-pos-cast z f h = rw (nonnegative z h) (tt, omega (arith, f.sfits))
 
 -- ---- sum and difference
 
@@ -115,35 +82,33 @@ over (negsuc n) h =
     rw e (to_z-ind (2 ^ 64 - suc n) (λ (z : ℤ). not (beq (lt_z z (pos 0)) true) ≡ not (ltb n (2 ^ 63)))
     (λ k. rw (pos-sign (2 ^ 64 - suc n), le-ltb n (2 ^ 63) (omega arith))) (λ k. rw (lt-ltb n (2 ^ 63) (omega arith))))
 
-over-pos : (n : ℕ) → n < 2 ^ 64 → not (beq (lt_z (wrap (pos n)) (pos 0)) false) ≡ not (is_word (pos n))
-over-pos n h = rw (pos-sign n) at (over (pos n) h)
+-- what `overflowing_add` and `overflowing_sub` say
+pub add-wraps : (a b : ℤ) → SFits w64 a → SFits w64 b → int_wrapping_add w64 a b ≡ wrap (a +ℤ b)
+unfolding wrap
+add-wraps a b f g = ap (to_z w64) (ap₂ (λ (m n : ℕ). (m + n) % 2 ^ 64) (sym (bits-of_z a f)) (sym (bits-of_z b g)) ∙ add-bits a b)
 
-not-over : (z : ℤ) → SFits w64 z → false ≡ not (is_word z)
-not-over z f = sym (ap not (is_word_lem z f))
+pub sub-wraps : (a b : ℤ) → SFits w64 a → SFits w64 b → int_wrapping_sub w64 a b ≡ wrap (a -ℤ b)
+unfolding wrap
+sub-wraps a b f g =
+    let r = (of_z w64 a + (2 ^ 64 - of_z w64 b)) % 2 ^ 64 in
+    let h : (r + bits b) % 2 ^ 64 ≡ bits a = rw (bits-of_z a f, bits-of_z b g) (less (of_z w64 a) (of_z w64 b) (Fits-of_z f).fits (Fits-of_z g).fits) in
+    ap (to_z w64) (sub-bits a b r (omega arith) h)
+  where
+    less : (x y : ℕ) → x < 2 ^ 64 → y < 2 ^ 64 → ((x + (2 ^ 64 - y)) % 2 ^ 64 + y) % 2 ^ 64 ≡ x
+    less x y h k = omega arith
 
--- terms of different signs
-sub-fits : (a b : ℕ) → a ≤ 2 ^ 63 → b < 2 ^ 63 → SFits w64 (sub_ℕ a (suc b))
-sub-fits a b f g = sub-ind a (suc b) (SFits w64) (λ h. record { sfits = omega arith }) (λ h. record { sfits = omega arith })
+word-fits : (z : ℤ) → is_word z ≡ true → SFits w64 z
+unfolding is_word
+word-fits (pos n) h = record { sfits = ltb-true n (2 ^ 63) h }
+word-fits (negsuc n) h = record { sfits = ltb-true n (2 ^ 63) h }
 
-pub add-over : (a b : ℤ) → SFits w64 a → SFits w64 b → (beq (lt_z a (pos 0)) (lt_z b (pos 0)) && differ (wrap (a +ℤ b)) a) ≡ not (is_word (a +ℤ b))
-add-over (pos a) (pos b) f g = rw (pos-sign a, pos-sign b) (over-pos (a + b) (omega (arith, f.sfits, g.sfits)))
-add-over (pos a) (negsuc b) f g = rw (pos-sign a) (not-over (sub_ℕ a (suc b)) (sub-fits a b (omega (arith, f.sfits)) g.sfits))
-add-over (negsuc a) (pos b) f g = rw (pos-sign b) (not-over (sub_ℕ b (suc a)) (sub-fits b a (omega (arith, g.sfits)) f.sfits))
-add-over (negsuc a) (negsuc b) f g = over (negsuc (suc (a + b))) (omega (arith, f.sfits, g.sfits))
-
-pub sub-over : (a b : ℤ) → SFits w64 a → SFits w64 b → (differ a b && differ (wrap (a -ℤ b)) a) ≡ not (is_word (a -ℤ b))
-sub-over (pos a) (pos zero) f g = rw (pos-sign a) (not-over (pos (a + 0)) (record { sfits = omega (arith, f.sfits) }))
-sub-over (pos a) (pos (suc b)) f g = rw (pos-sign a, pos-sign (suc b)) (not-over (sub_ℕ a (suc b)) (sub-fits a b (omega (arith, f.sfits)) (omega (arith, g.sfits))))
-sub-over (pos a) (negsuc b) f g = rw (pos-sign a) (over-pos (a + suc b) (omega (arith, f.sfits, g.sfits)))
-sub-over (negsuc a) (pos zero) f g =
-    sub-ind 0 (suc a) (λ (z : ℤ). not (beq (lt_z (wrap z) (pos 0)) true) ≡ not (is_word z)) (λ k. over (negsuc (suc a - 1)) (omega (arith, f.sfits))) (λ k. absurd (omega arith))
-sub-over (negsuc a) (pos (suc b)) f g = rw (pos-sign (suc b)) (over (negsuc (suc (a + b))) (omega (arith, f.sfits, g.sfits)))
-sub-over (negsuc a) (negsuc b) f g = not-over (sub_ℕ (suc b) (suc a)) (sub-fits (suc b) a g.sfits f.sfits)
-
-pub neg-fits : (x : ℤ) → SFits w64 x → (of_z w64 x ≡ 2 ^ 63 → ⊥) → SFits w64 (neg_ℤ x)
-neg-fits (pos zero) f h = record { sfits = omega arith }
-neg-fits (pos (suc n)) f h = record { sfits = omega (arith, f.sfits) }
-neg-fits (negsuc n) f h = record { sfits = omega (arith, f.sfits, h) }
+pub overflow-is : (z : ℤ) (o : Bool) → FalseIff o (SFits w64 z) → o ≡ not (is_word z)
+overflow-is z false h = sym (ap not (is_word_lem z h))
+overflow-is z true h = by (is_word z) refl
+  where
+    by : (b : Bool) → is_word z ≡ b → true ≡ not b
+    by false e = refl
+    by true e = absurd (h (word-fits z e))
 
 -- ---- shifts and the product
 
@@ -158,9 +123,6 @@ shl-bits (negsuc a) p f =
     let h : suc a ≤ 2 ^ 64 = omega (arith, f.sfits) in
     ap (λ (x : ℕ). x % 2 ^ 64) (mul_comm (2 ^ 64 - suc a) p ∙ mul-sub p (2 ^ 64) (suc a) ∙ ap (λ (m : ℕ). p * 2 ^ 64 - m) (mul_comm p (suc a)))
     ∙ neg_low (suc a * p) p (omega (arith, mul-le-mul_right p h))
-
-pub shr-fits : (x : ℤ) (m : ℕ) → SFits w64 x → SFits w64 (shr_z x m)
-shr-fits x m f = record { sfits = lt_of_le_of_lt (mag_shr x m) f.sfits }
 
 pub mul-bits : (a b : ℤ) → SFits w64 a → SFits w64 b → (of_z w64 a * of_z w64 b) % 2 ^ 64 ≡ bits (a *ℤ b)
 mul-bits a (pos b) f g = shl-bits a b f
@@ -204,10 +166,6 @@ above-by m n l z =
     ltb-is (l / m) n (λ h. lt-ltb l (m * n) (omega (arith, mul_comm m n, (div-lt_iff_lt-mul z).0 h)))
     (λ h. le-ltb l (m * n) (omega (arith, mul_comm m n, (le-div_iff_mul-le z).0 h)))
 
--- two numbers below 2^32, multiplied
-pub half-fits : (a b : ℕ) → a < 2 ^ 32 → b < 2 ^ 32 → Fits w64 (a * b)
-half-fits a b f g = record { fits = lt_of_le_of_lt (mul-le-mul_left a (le_of_lt g)) (omega arith) }
-
 -- the product by halves
 columns : (a b c d : ℕ) → (a * 2 ^ 32 + b) * (c * 2 ^ 32 + d) ≡ a * c * 2 ^ 64 + (a * d + b * c) * 2 ^ 32 + b * d
 columns a b c d =
@@ -239,63 +197,7 @@ eq-bits (negsuc a) (negsuc b) f g = by (eqb a b) refl
     by true e = eq-eqb (2 ^ 64 - suc a) (2 ^ 64 - suc b) (omega (arith, eqb-true a b e)) ∙ sym e
     by false e = ne_eqb (2 ^ 64 - suc a) (2 ^ 64 - suc b) (λ d. eqb-false a b e (omega (arith, f.sfits, g.sfits))) ∙ sym e
 
--- the test of `quotient`
-abbrev pub no_quotient : ℤ → ℤ → Bool
-no_quotient w v = eq_z v (pos 0) || (eq_z w smallest && eq_z v (negsuc 0))
-
-pub quotient-test : (w v : ℤ) {t : Bool} → SFits w64 w → SFits w64 v → (eqb (of_z w64 v) 0 || (eqb (of_z w64 w) (2 ^ 63) && eqb (of_z w64 v) (2 ^ 64 - 1))) ≡ t → no_quotient w v ≡ t
-quotient-test w v f g e = rw (← eq-bits v (pos 0) g (sfits_lit tt), ← eq-bits w smallest f (sfits_lit tt), ← eq-bits v (negsuc 0) g (sfits_lit tt)) e
-
-pub divisor-pos : (w v : ℤ) → SFits w64 v → no_quotient w v ≡ false → 0 < of_z w64 v
-divisor-pos w (pos zero) g h = absurd (true≢false h)
-divisor-pos w (pos (suc n)) g h = omega arith
-divisor-pos w (negsuc n) g h = omega (arith, g.sfits)
-
-neg-mag : (q : ℕ) → q ≤ 2 ^ 63 → mag (neg_ℤ (pos q)) < 2 ^ 63
-neg-mag zero h = omega arith
-neg-mag (suc q) h = h
-
-quot-lt : (a b : ℕ) → 0 < b → a < 2 ^ 63 * b → a / b < 2 ^ 63
-quot-lt a b z h = (div-lt_iff_lt-mul z).1 h
-
-pub quot_fits : (w v : ℤ) → SFits w64 w → no_quotient w v ≡ false → SFits w64 (quot_z w v)
-quot_fits (pos a) (pos b) f h = record { sfits = lt_of_le_of_lt (div-le_self a b) f.sfits }
-quot_fits (pos a) (negsuc b) f h = record { sfits = neg-mag (a / suc b) (le_of_lt (lt_of_le_of_lt (div-le_self a (suc b)) f.sfits)) }
-quot_fits (negsuc a) (pos b) f h = record { sfits = neg-mag (suc a / b) (omega (arith, div-le_self (suc a) b, f.sfits)) }
-quot_fits (negsuc a) (negsuc zero) f h =
-    let n : a ≡ 9223372036854775807 → ⊥ = eqb-false a 9223372036854775807 (rw (and-true (eqb a 9223372036854775807)) at h) in
-    record { sfits = quot-lt (suc a) 1 (omega arith) (omega (arith, f.sfits)) }
-quot_fits (negsuc a) (negsuc (suc b)) f h = record { sfits = quot-lt (suc a) (suc (suc b)) (omega arith) (omega (arith, f.sfits)) }
-
--- ---- addresses
-
-pub is_address_lem : (w : ℤ) → (le_z (pos 0) w && le_z w (pos 4294967295)) ≡ is_address (address_of w)
-unfolding address_of is_address
-is_address_lem (pos n) = rw (leb-zero n) (by (leb n 4294967295))
-  where
-    by : (b : Bool) → b ≡ is_address (cond b (Some n) None)
-    by true = refl
-    by false = refl
-is_address_lem (negsuc n) = refl
-
-pub address-cast : (w : ℤ) → is_address (address_of w) ≡ true → T (non_neg w) × Fits w32 (nat_abs w)
-address-cast (pos n) h = (tt, omega (arith, (address-in (pos n) h).1))
-address-cast (negsuc n) h = absurd (true≢false (sym (is_address_lem (negsuc n) ∙ h)))
-
-pub address-by : (w : ℤ) {t : Bool} → is_address (address_of w) ≡ t → cond t (Some (nat_abs w)) None ≡ address_of w
-unfolding address_of is_address
-address-by (pos n) e = by (leb n 4294967295) e
-  where
-    by : {t : Bool} (b : Bool) → is_address (cond b (Some n) None) ≡ t → cond t (Some n) None ≡ cond b (Some n) None
-    by true e = rw (← e)
-    by false e = rw (← e)
-address-by (negsuc n) e = rw (← e)
-
 -- ---- single bits
-
--- the low k bits, as a word
-pub mask-to_z : (n k : ℕ) → k < 64 → to_z w64 (bit_and n (2 ^ k - 1)) ≡ pos (n % 2 ^ k)
-mask-to_z n k h = rw (and_mask n k) (to_z_pos w64 (lt_of_lt_of_le (mod-lt n (pow_pos k)) (pow_mono {j = 63} (omega arith))))
 
 -- one digit, shifted to place k
 pub shl-digit : (d k : ℕ) → d < 2 → k < 64 → (d * 2 ^ k) % 2 ^ 64 ≡ d * 2 ^ k

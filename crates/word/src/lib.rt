@@ -1,10 +1,10 @@
 // The operations on words that instructions.rs takes from i64. Each answers what the definition's Word.antt says.
 #![tactic(auto)]
 
-ghost use Rattle.std.specs.Prelude.{◌≡◌, ◌*◌, ◌%◌, ◌^◌, ◌<◌, ◌+ℤ◌, ◌-ℤ◌, ◌*ℤ◌, neg_ℤ, int_lt, nat_lt, unsigned_abs};
+ghost use Rattle.std.specs.Prelude.{◌≡◌, ◌*◌, ◌%◌, ◌^◌, ◌<◌, ◌+ℤ◌, ◌-ℤ◌, ◌*ℤ◌, neg_ℤ, nat_lt, unsigned_abs};
 ghost use Rattle.std.specs.Int.{w64};
 ghost use Rattle.std.proofs.Common.{to_z};
-ghost use Rattle.definition.specs.Word.{bits, wrapped, eq_z, address_of, quotient, is_shift, shl_w, shr_w, and_w, or_w, xor_w, not_w, bit, put_bit, low_byte};
+ghost use Rattle.definition.specs.Word.{bits, wrapped, address_of, quotient, is_shift, shl_w, shr_w, and_w, or_w, xor_w, not_w, bit, put_bit, low_byte};
 ghost use Rattle.definition.specs.Encoding.{is_address};
 ghost use Rattle.definition.specs.Total.{total};
 
@@ -24,26 +24,20 @@ pub fn of_bits(n: u64) -> i64
     n.cast_signed()
 }
 
-// "add, sub, mul and neg wrap at 64 bits and set V": a sum overflows where both terms have one sign and the sum the other.
+// "64-bit wrapping add and subtract as supplied, own helpers for multiply and negate, each giving the overflow flag": so mul and neg are not
+// overflowing_mul and overflowing_neg.
 pub fn add(a: i64, b: i64) -> Wrapped
     ensures { result ≡ wrapped (a +ℤ b) }
 {
-    let s = of_bits(to_bits(a).wrapping_add(to_bits(b)));
-    Wrapped {
-        value: s,
-        overflow: ((a < 0) == (b < 0)) & ((s < 0) != (a < 0)),
-    }
+    let (value, overflow) = a.overflowing_add(b);
+    Wrapped { value, overflow }
 }
 
-// A difference overflows where the terms' signs differ and its sign is not the first term's.
 pub fn sub(a: i64, b: i64) -> Wrapped
     ensures { result ≡ wrapped (a -ℤ b) }
 {
-    let s = of_bits(to_bits(a).wrapping_sub(to_bits(b)));
-    Wrapped {
-        value: s,
-        overflow: ((a < 0) != (b < 0)) & ((s < 0) != (a < 0)),
-    }
+    let (value, overflow) = a.overflowing_sub(b);
+    Wrapped { value, overflow }
 }
 
 // Only the smallest word's negation is no word.
@@ -51,14 +45,14 @@ pub fn sub(a: i64, b: i64) -> Wrapped
 pub fn neg(x: i64) -> Wrapped
     ensures { result ≡ wrapped (neg_ℤ x) }
 {
-    if x == -0x8000_0000_0000_0000 {
+    if x == i64::MIN {
         Wrapped {
             value: x,
             overflow: true,
         }
     } else {
         Wrapped {
-            value: 0 - x,
+            value: -x,
             overflow: false,
         }
     }
@@ -86,7 +80,7 @@ pub fn magnitude(x: i64) -> u64
     x.unsigned_abs()
 }
 
-// Whether m * n is above limit, by division, since the product may not fit.
+// mul's helper: whether m * n is above limit, by division.
 pub fn above(m: u64, n: u64, limit: u64) -> bool
     ensures { result ≡ nat_lt limit (m * n) }
 {
@@ -113,11 +107,7 @@ pub fn mul(a: i64, b: i64) -> Wrapped
 pub fn div(a: i64, b: i64) -> Option<i64>
     ensures { result ≡ quotient a b }
 {
-    if (b == 0) | (a == -0x8000_0000_0000_0000) & (b == -1) {
-        None
-    } else {
-        Some(a / b)
-    }
+    a.checked_div(b)
 }
 
 // "Shift amounts are 0 to 63"
@@ -174,32 +164,19 @@ pub fn not(x: i64) -> i64
     !x
 }
 
-// "cmp sets Z if the words are equal and N if operand < register": the two tests.
-#[tactic(auto, using(crate::proofs::Laws::back))]
-pub fn eq(a: i64, b: i64) -> bool
-    ensures { result ≡ eq_z a b }
-{
-    a == b
-}
-
-pub fn lt(a: i64, b: i64) -> bool
-    ensures { result ≡ int_lt a b }
-{
-    a < b
-}
-
 // "An address is a word 0 to 4,294,967,295."
-#[tactic(auto, using(crate::proofs::Laws::back), unfolding(definition::specs::Word::address_of, definition::specs::Encoding::is_address))]
+#[tactic(auto, unfolding(definition::specs::Word::address_of, definition::specs::Encoding::is_address))]
 pub fn is_address(w: i64) -> bool
     ensures { result ≡ is_address (address_of w) }
 {
-    (0 <= w) & (w <= 4294967295)
+    u32::try_from(w).is_ok()
 }
 
+#[tactic(auto, unfolding(definition::specs::Word::address_of))]
 pub fn to_address(w: i64) -> Option<u32>
     ensures { result ≡ address_of w }
 {
-    if is_address(w) { Some(w as u32) } else { None }
+    u32::try_from(w).ok()
 }
 
 // Bit k of w, from 0.

@@ -1,14 +1,11 @@
-use Rattle.std.proofs.Common.{arith, ◌∙◌}
-use Rattle.back.proofs.Laws.{fit-on, fit-off, fit-none}
+use Rattle.std.proofs.Common.{◌∙◌, refl, arith, rules, tests}
+use Rattle.std.proofs.lemmas.Iterator.{YieldsList-from_range}
+use Rattle.std.proofs.lemmas.Iterator.Search.{all_from_yields_List}
+use Rattle.back.proofs.Laws.{fits_at, fit-list}
 use Rattle.back.proofs.held_fit.Goals as goal
 
-pub returns-then-not-held_fits : goal.returns-then-not-held_fits
-returns-then-not-held_fits c =
-    fit-off c.args.n c.args.kept.now c.loop-i.i (omega arith) c.held_fits.ensures c.if-not-held_fits.true ∙ c.loop-i.invariant
-
-pub loop-i-preserved : goal.loop-i-preserved
-loop-i-preserved c =
-    fit-on c.args.n c.args.kept.now c.loop-i.i (omega arith) c.held_fits.ensures c.if-not-held_fits.false ∙ c.loop-i.invariant
-
 pub returns : goal.returns
-returns c = fit-none c.args.n c.args.kept.now c.loop-i.i (omega arith) ∙ c.loop-i.invariant
+returns c =
+    let r = c.args.kept.now in
+    all_from_yields_List (fits_at c.args.n r) _ _ c.all.result c.all.ensures.ran (YieldsList-from_range 0 c.args.k c.args.k refl (omega arith)) (λ x b q k. search (rules, tests))
+    ∙ fit-list c.args.n r c.args.k

@@ -1,22 +1,20 @@
-use Rattle.std.proofs.Common.{◌∙◌, ap, sym, arith, length}
+use Rattle.std.proofs.Common.{◌∙◌, ap, sym, refl, arith, length, take}
 use lib.Seq.{length-take-le}
-use Rattle.lister.proofs.Laws.{text-put, refusal-put}
+use Rattle.std.specs.Prelude.{Ok, Err}
+use Rattle.definition.specs.Answers.{counted_of}
+use Rattle.lister.proofs.Laws.{text-put, refusal-put, numbered}
 use Rattle.lister.proofs.list_image.Goals as goal
 
 pub slice_bounds-room-end : goal.slice_bounds-room-end
-slice_bounds-room-end c = (text-put c.args.leave c.args.image.now _ c.list-r.result c.list-r.ensures c.if-r-eq0.true).1
+slice_bounds-room-end c = (text-put c.args.leave c.args.image.now _ (counted_of (Ok c.in-Ok.bytes)) (rw c.in-Ok.is at c.listed.ensures) refl).1
 
 pub slice_bounds-put-end : goal.slice_bounds-put-end
-slice_bounds-put-end c = let t = text-put c.args.leave c.args.image.now _ c.list-r.result c.list-r.ensures c.if-r-eq0.true in
+slice_bounds-put-end c = let t = text-put c.args.leave c.args.image.now _ (counted_of (Ok c.in-Ok.bytes)) (rw c.in-Ok.is at c.listed.ensures) refl in
     sym (length-take-le _ _ t.1)
 
-pub put-requires : goal.put-requires
-put-requires c = let t = text-put c.args.leave c.args.image.now _ c.list-r.result c.list-r.ensures c.if-r-eq0.true in
-    (omega arith, omega (arith, length-take-le _ _ t.1, t.1, ap length c.new-text.ensures, c.list-r.auto.text))
-
-pub returns-then-r-eq0 : goal.returns-then-r-eq0
-returns-then-r-eq0 c = let t = text-put c.args.leave c.args.image.now _ c.list-r.result c.list-r.ensures c.if-r-eq0.true in
+pub returns-in-Ok : goal.returns-in-Ok
+returns-in-Ok c = let t = text-put c.args.leave c.args.image.now _ (counted_of (Ok c.in-Ok.bytes)) (rw c.in-Ok.is at c.listed.ensures) refl in
     rw (c.put.ensures, c.new-text.ensures) t.0
 
-pub returns : goal.returns
-returns c = c.refusal.ensures ∙ refusal-put c.args.leave c.args.image.now _ c.list-r.result c.list-r.ensures c.if-r-eq0.false
+pub returns-in-Err : goal.returns-in-Err
+returns-in-Err c = c.refusal.ensures ∙ refusal-put c.args.leave c.args.image.now _ (counted_of (Err c.in-Err.e)) (rw c.in-Err.is at c.listed.ensures) (λ z. let n = numbered c.in-Err.e in omega arith)

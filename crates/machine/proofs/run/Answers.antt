@@ -11,14 +11,14 @@ from_row-m-requires c =
     let r = p.row_fits in
     (r.long, (r.pc, (r.sp, (r.fence.0, omega (arith, r.fence.1, p.cells_fit.most)))))
 
-pub run-e-requires : goal.run-e-requires
-run-e-requires c =
+pub run-ended-requires : goal.run-ended-requires
+run-ended-requires c =
     let a = c.args in rw c.from_row-m.ensures (run-accepted a.cells.now a.queue.now a.output.now a.row.now c.requires)
 
 pub write_row-requires : goal.write_row-requires
 write_row-requires c =
     let a = c.args in
-    let x = left-accepted a.cells.now a.queue.now a.output.now a.row.now c.requires a.budget _ _ c.run-e.result c.run-e.new.m (rw c.from_row-m.ensures at c.run-e.ensures) in
+    let x = left-accepted a.cells.now a.queue.now a.output.now a.row.now c.requires a.budget _ _ c.run-ended.result c.run-ended.new.m (rw c.from_row-m.ensures at c.run-ended.ensures) in
     let k = x.console_in in
     let p = (run-passed (lent a.cells.now a.queue.now a.output.now a.row.now) c.requires).row_fits in
     (p.long, (x.cycles_in, (omega (arith, k.start_in, k.few), (omega (arith, k.count_in, k.few), (omega (arith, k.written_in, k.small), x.timer_in)))))
@@ -26,4 +26,4 @@ write_row-requires c =
 pub returns : goal.returns
 returns c =
     let a = c.args in
-    rw c.ran.ensures (run-answer a.cells.now a.queue.now a.output.now a.row.now c.requires a.budget _ _ c.run-e.result c.run-e.new.m (rw c.from_row-m.ensures at c.run-e.ensures) _ c.write_row.ensures)
+    rw c.into.ensures (run-answer a.cells.now a.queue.now a.output.now a.row.now c.requires a.budget _ _ c.run-ended.result c.run-ended.new.m (rw c.from_row-m.ensures at c.run-ended.ensures) _ c.write_row.ensures)

@@ -1,4 +1,5 @@
 use Rattle.std.proofs.Common.{◌∙◌, arith}
+use Rattle.std.proofs.lemmas.Result.{err_from_is_err_and}
 use Rattle.word.proofs.Laws.{back}
 use Rattle.memory.specs.Overlay.{overlay}
 use Rattle.registers.specs.Meaning.{res_of}
@@ -9,15 +10,16 @@ use Rattle.runtime.proofs.turn.serve_read.Goals as goal
 pub returns-clause-value : goal.returns-clause-value
 unfolding res_of
 returns-clause-value c = λ l o.
-    let z = c.planned-f.ensures in
+    let z = c.requires.planned in
     let v = rw (back c.read_port-w.result (omega arith), c.read_port-w.ensures, z) at c.word_cell.ensures in
-    let s = rw (z, v) at (settled_is _ _ (overlay c.args.plan.write l) _ _ c.in_default.ensures) in
+    let s = rw (z, v) at (settled_is _ _ (overlay c.args.f.now.plan.write l) _ _ c.in_ok-put_reg.ensures) in
     c.conclude.ensures.value l c.args.queue.now o c.args.m.now ∙ rw z (served_ok _ _ _ _ _ _ _ _ (rw z at (c.read_port-n.ensures o)) s)
 
-pub returns-in-Err-clause-value : goal.returns-in-Err-clause-value
+pub returns-in_err-put_reg-clause-value : goal.returns-in_err-put_reg-clause-value
 unfolding res_of
-returns-in-Err-clause-value c = λ l o.
-    let z = c.planned-f.ensures in
+returns-in_err-put_reg-clause-value c = λ l o.
+    let z = c.requires.planned in
     let v = rw (back c.read_port-w.result (omega arith), c.read_port-w.ensures, z) at c.word_cell.ensures in
-    let s = rw (z, v) at (settled_is _ _ (overlay c.args.plan.write l) _ _ c.in-Err.ensures) in
-    c.ends.ensures _ ∙ rw z (served_err _ _ _ _ _ _ _ _ (rw z at (c.read_port-n.ensures o)) _ s)
+    let s = rw (z, v) at (settled_is _ _ (overlay c.args.f.now.plan.write l) _ _ c.in_err-put_reg.ensures) in
+    let p = err_from_is_err_and c.from_residual.result c.from_residual.ensures.1 in
+    rw (p.1, p.2, z) (served_err _ _ _ _ _ _ _ _ (rw z at (c.read_port-n.ensures o)) _ s)

@@ -6,4 +6,4 @@ use Rattle.seats.proofs.Buffers.seats_check.Given as goal
 
 abbrev pub invariant-loop-k : goal.invariant-loop-k
 invariant-loop-k l =
-    let b = lent_of l.self in check_from l.n b l.k ≡ seat_by_seat 1 (machines l.n l.n 0 b)
+    let b = lent_of l.self in check_from l.n b l.k-counter ≡ seat_by_seat 1 (machines l.n l.n 0 b)

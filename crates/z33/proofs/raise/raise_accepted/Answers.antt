@@ -1,4 +1,5 @@
 use Rattle.std.proofs.Common.{[], arith, ap, sym, subst, ◌∙◌}
+use Rattle.std.proofs.lemmas.Result.{err_from_is_err_and}
 use Rattle.definition.specs.Io.{Console}
 use Rattle.definition.specs.Accepted.{TimerIn}
 use Rattle.definition.specs.Calls.{machine_of}
@@ -29,7 +30,7 @@ unfolding machine_of
 write_row-requires c =
     let a = c.args in
     let r = (raise-passed a.cells.now a.row.now a.code c.requires).row_fits in
-    let h = c.in-Ok.ensures [] [] ∙ ap (raised_from a.cells.now a.code) c.from_row-m.ensures in
+    let h = c.in_ok-raise.ensures [] [] ∙ ap (raised_from a.cells.now a.code) c.from_row-m.ensures in
     let f = raise-fits a.cells.now a.row.now a.code c.requires (machine_at c.raise.new.cells [] [] c.raise.new.m) h in
     let s = ap (λ (x : Console). x.start) f.1.0 in
     let n = ap (λ (x : Console). x.count) f.1.0 in
@@ -37,12 +38,13 @@ write_row-requires c =
     let time = subst TimerIn (sym f.1.1) (record { interval_in = r.interval.1; remaining_in = omega (arith, r.remaining.1) }) in
     (r.long, (f.0, (omega (arith, r.start.1), (omega (arith, r.count.1), (omega (arith, r.written.1), time)))))
 
-pub returns-in-Ok : goal.returns-in-Ok
-returns-in-Ok c =
+pub returns : goal.returns
+returns c =
     let a = c.args in
-    raise-done a.cells.now a.row.now a.code c.requires c.raise.new.cells c.raise.new.m _ (c.in-Ok.ensures [] [] ∙ ap (raised_from a.cells.now a.code) c.from_row-m.ensures) c.write_row.ensures
+    raise-done a.cells.now a.row.now a.code c.requires c.raise.new.cells c.raise.new.m _ (c.in_ok-raise.ensures [] [] ∙ ap (raised_from a.cells.now a.code) c.from_row-m.ensures) c.write_row.ensures
 
-pub returns-in-Err : goal.returns-in-Err
-returns-in-Err c =
+pub returns-in_err-raise : goal.returns-in_err-raise
+returns-in_err-raise c =
     let a = c.args in
-    rw (c.into.ensures, c.into-in-Err.ensures) (raise-stopped a.cells.now a.row.now a.code c.requires c.raise.new.cells c.raise.new.m c.in-Err.x.number c.in-Err.x.detail (c.in-Err.ensures [] [] ∙ ap (raised_from a.cells.now a.code) c.from_row-m.ensures))
+    let p = err_from_is_err_and c.from_residual.result c.from_residual.ensures.1 in
+    rw (p.1, p.2) (raise-stopped a.cells.now a.row.now a.code c.requires c.raise.new.cells c.raise.new.m c.in_err-raise.field-0.0 (c.in_err-raise.ensures [] [] ∙ ap (raised_from a.cells.now a.code) c.from_row-m.ensures))

@@ -1,17 +1,9 @@
-use Rattle.std.proofs.Common.{◌∙◌, sym, ap}
-use Rattle.expression.specs.Code.{place_found}
-use Rattle.expression.specs.Labels.{among}
-use Rattle.expression.proofs.Tables.{among-here, among-next, among-end}
+use Rattle.std.proofs.Common.{rules}
+use Rattle.expression.proofs.Tables.{among-by}
 use Rattle.expression.proofs.labels.Labels.among.Goals as goal
 
-pub loop-entry-init : goal.loop-entry-init
-loop-entry-init c = ap (λ es. among es c.args.name.now) c.held-entry-items.ensures
-
-pub returns-in-Some : goal.returns-in-Some
-returns-in-Some c = among-here _ c.loop-entry.entry-index c.args.name.now _ c.in-Some.line c.loop-entry-test.true (sym c.line_of.ensures ∙ ap place_found c.in-Some.is) ∙ c.loop-entry.invariant
-
-pub loop-entry-preserved : goal.loop-entry-preserved
-loop-entry-preserved c = among-next _ c.loop-entry.entry-index c.args.name.now _ c.loop-entry-test.true (sym c.line_of.ensures ∙ ap place_found c.in_default.is) ∙ c.loop-entry.invariant
-
 pub returns : goal.returns
-returns c = among-end _ c.loop-entry.entry-index c.args.name.now c.loop-entry-test.false ∙ c.loop-entry.invariant
+returns c =
+    let p = c.find_map.ensures.runs in
+    let m = c.iter.ensures.runs p.0 p.0.seen in
+    among-by p.0 _ c.args.name.now (rw (p.1, c.iter.ensures.rest, c.held.ensures) at m) _ _ (λ a r q h. search rules) (λ x b q h. search rules) _ p.2
