@@ -1,8 +1,9 @@
 /* The proved Z33 for C and C++: its calls over memory that the caller owns and lends for the length of a call.
  *
  * Lent are: cells, three numbers each (tag, first, second); the row of 20 numbers (a, b, pc, sp, sr, cycles, the console's marks and
- * counts, the fence, the timer); the input queue and the output record, as bytes. Each comes as a pointer and a count of elements (numbers or bytes,
- * not cells); where the count is 0 the pointer may be null. Buffers of one call must not overlap.
+ * counts, the fence, the timer); the input queue and the output record, as bytes; a journal, for whoever wants to step back. Each comes as a
+ * pointer and a count of elements (numbers or bytes, not cells); where the count is 0 the pointer may be null. Buffers of one call must not
+ * overlap.
  *
  * An answer begins with refusal and place. refusal 0: the call was done. Otherwise it is the number of what was wrong (below), place
  * says where, every other field is 0 (but z33_bench names the seat) and nothing that was lent has changed.
@@ -85,6 +86,23 @@ enum {
 /* A bench: its seats, and the steps of a turn. */
 enum { Z33_SEATS_LEAST = 1, Z33_SEATS_MOST = 16, Z33_TURN_MOST = 100 };
 
+/* A journal: start (the place of its oldest record in the ring, from 0), count (how many records are kept), then a ring of 1 to 4,096 records.
+ * A record is of one step: the row before it, how many cells it wrote (0 to 4), and four times the address of such a cell and what it held, in
+ * order of writing; those unused are 0. */
+enum {
+    Z33_JOURNAL_START = 0,
+    Z33_JOURNAL_COUNT = 1,
+    Z33_JOURNAL_HEAD = 2, /* the ring begins here */
+    Z33_RECORD_CELLS = Z33_ROW_LENGTH,
+    Z33_RECORD_FIRST_CELL = Z33_RECORD_CELLS + 1, /* its address, and behind that the cell */
+    Z33_WRITES_MOST = 4,
+    Z33_RECORD_LENGTH = Z33_RECORD_FIRST_CELL + Z33_WRITES_MOST * (1 + Z33_CELL_LENGTH),
+    Z33_RECORDS_LEAST = 1,
+    Z33_RECORDS_MOST = 4096
+};
+/* The numbers of a journal with room for so many steps. */
+#define Z33_JOURNAL_LENGTH(records) (Z33_JOURNAL_HEAD + Z33_RECORD_LENGTH * (records))
+
 /* Cells and ports with a meaning of their own. */
 enum {
     Z33_INTERRUPT_PC_SAVE = 100,
@@ -143,7 +161,9 @@ enum {
     Z33_REFUSAL_VALUE = 15,       /* place: the line with a value out of range */
     Z33_REFUSAL_EMPTY_CELL = 16,  /* the image has an empty cell, and a listing was not allowed it */
     Z33_REFUSAL_TEXT_ROOM = 17,   /* the text buffer is too short */
-    Z33_REFUSAL_SEATS = 19        /* seats not 1 to 16, the list not one record a seat, or a buffer not divisible by seats; before 1 */
+    Z33_REFUSAL_SEATS = 19,       /* seats not 1 to 16, the list not one record a seat, or a buffer not divisible by seats; before 1 */
+    Z33_REFUSAL_JOURNAL = 20,     /* no whole records, 1 to 4,096, behind start and count; start or count out of range; or z33_back's record is none */
+    Z33_REFUSAL_NOTHING_KEPT = 21 /* the journal has nothing to go back to */
 };
 
 typedef struct { uint64_t refusal, place; } z33_done;
@@ -210,6 +230,36 @@ z33_benched z33_bench(z33_seat *list, size_t list_len, int64_t *cells, size_t ce
 
 /* The record of one that was stored in 32 bits, every number equal. */
 z33_seat z33_take_over(uint32_t limit, uint32_t used, uint32_t stop);
+
+/* ---- stepping back: the same calls with a journal lent behind the row, or behind the cells where there is none */
+
+/* What all of them do, answer and refuse is what they do without a journal; where they are not refused by that, they are by 20 where the journal
+ * is none. What a record holds is looked at by z33_back alone. The journal serves one machine, and is lent to every call that changes it: a
+ * change that it missed, as one written into row or cells, is not gone back over. */
+
+/* Leaves the journal with nothing kept and start 0, whatever its numbers were: only its length is tested. So a new one is made. */
+z33_done z33_fresh_journal(int64_t *cells, size_t cells_len, int64_t *row, size_t row_len, int64_t *journal, size_t journal_len);
+
+/* Answers and leaves what z33_run does, and keeps a record of every step that is begun: of one that stops by 1 to 5 too, not of one that 6 or
+ * 7 stop before. Where there is no room the oldest record is forgotten. On budget 0 the journal stays as it is. */
+z33_ran z33_run_journal(int64_t *cells, size_t cells_len, uint8_t *queue, size_t queue_len, uint8_t *output, size_t output_len,
+                        int64_t *row, size_t row_len, int64_t *journal, size_t journal_len, uint64_t budget);
+
+/* Each of these sets the journal's count to 0 unless it is refused, even where it changes nothing else, and keeps the rest of it. */
+z33_done z33_deliver_journal(uint8_t *queue, size_t queue_len, int64_t *row, size_t row_len, int64_t *journal, size_t journal_len,
+                             const uint8_t *bytes, size_t bytes_len);
+z33_drained z33_drain_journal(const uint8_t *output, size_t output_len, int64_t *row, size_t row_len,
+                              int64_t *journal, size_t journal_len, uint8_t *buffer, size_t buffer_len);
+z33_done z33_load_journal(int64_t *cells, size_t cells_len, int64_t *journal, size_t journal_len,
+                          const int64_t *image, size_t image_len, uint64_t start);
+z33_done z33_set_register_journal(int64_t *row, size_t row_len, int64_t *journal, size_t journal_len, uint64_t reg, int64_t word);
+z33_raised z33_raise_journal(int64_t *cells, size_t cells_len, int64_t *row, size_t row_len,
+                             int64_t *journal, size_t journal_len, uint64_t code);
+
+/* Goes back one step: the newest record's cells and row are as they were before its step, and the count is one less. What the queue's unread
+ * bytes and the counted bytes of the output record were, they are again: bytes read stay in the queue, and those written later are no longer
+ * counted. Refusals, in this order: 1, 4, 20, 21; the cells are not tested for damage. */
+z33_done z33_back(int64_t *cells, size_t cells_len, int64_t *row, size_t row_len, int64_t *journal, size_t journal_len);
 
 #ifdef __cplusplus
 }

@@ -1,5 +1,5 @@
-/* The header in C: its numbers, its example and the manual's class as they stand there (example.inc, class.inc), and its names for what is
- * answered. */
+/* The header in C: its numbers, its example, the manual's class and its steps back as they stand there (example.inc, class.inc, back.inc), and
+ * its names for what is answered. */
 #include <inttypes.h>
 #include <stdio.h>
 #include <string.h>
@@ -15,9 +15,14 @@ static void class_on_one_bench(void) {
 #include "class.inc"
 }
 
+static void steps_back(void) {
+#include "back.inc"
+}
+
 int main(void) {
 #include "example.inc"
     class_on_one_bench();
+    steps_back();
     row[Z33_ROW_A + Z33_TAG] = -1;
     z33_done refused = z33_set_register(row, Z33_ROW_LENGTH, Z33_B, 1);
     int met = due(refused.refusal == Z33_REFUSAL_ROW && refused.place == Z33_ROW_A + 1, "a damaged a is not told by the row's refusal and place");

@@ -1,4 +1,5 @@
-// The header in C++: its numbers, its example and the manual's class as they stand there (example.inc, class.inc), and calls over vectors.
+// The header in C++: its numbers, its example, the manual's class and its steps back as they stand there (example.inc, class.inc, back.inc), and
+// calls over vectors.
 #include <cinttypes>
 #include <cstdio>
 #include <cstring>
@@ -17,6 +18,9 @@ int main() {
     }
     {
 #include "class.inc"
+    }
+    {
+#include "back.inc"
     }
     std::vector<std::int64_t> cells(Z33_CELL_LENGTH * Z33_CELLS_LEAST), row(Z33_ROW_LENGTH);
     std::vector<std::uint8_t> queue(Z33_QUEUE_LEAST), output;

@@ -120,7 +120,57 @@ enum {
     BENCH_USED_AT_REFUSAL,    /* bench: a refused bench's list has changed */
     TAKE_OVER_SIGNED,         /* take over: 32 bits are read as a signed number */
     TAKE_OVER_SWAPPED,        /* take over: limit and steps used are exchanged */
-    TAKE_OVER_STOP_LOST       /* take over: the stop is 0 */
+    TAKE_OVER_STOP_LOST,      /* take over: the stop is 0 */
+    KEEP_ROW_AFTER,           /* run, journal: a record has the row behind its step */
+    KEEP_NEW_CELLS,           /* run, journal: a record has what the first written cell holds behind the step */
+    KEEP_OLDER_CELLS,         /* run, journal: of a cell written twice both entries have what it held before the step */
+    KEEP_CHANGES_ALONE,       /* run, journal: a cell written with what it held is not kept */
+    KEEP_ENTRY_FIRST,         /* run, journal: what entry wrote stands before what the instruction wrote */
+    KEEP_UNUSED,              /* run, journal: unused places keep what stood there */
+    KEEP_STOPPED_NOT,         /* run, journal: a step that stops is not kept */
+    KEEP_STOP_6,              /* run, journal: stop 6 is kept as a step */
+    KEEP_STOP_7,              /* run, journal: stop 7 is kept as a step */
+    KEEP_FORGETS_EARLY,       /* run, journal: the oldest is forgotten where there is room for one more */
+    KEEP_UNTIL_FULL,          /* run, journal: a full journal keeps no further step */
+    KEEP_START_STAYS,         /* run, journal: the start stays though the oldest is forgotten */
+    KEEP_BUDGET_0_EMPTIES,    /* run, journal: budget 0 empties it */
+    KEEP_EMPTY_UNCOUNTED,     /* run, journal: words from empty cells are not counted */
+    KEEP_CUT_BUDGET,          /* run, journal: only 32 bits of the budget count */
+    KEEP_20_BEFORE_5,         /* run, journal: 20 comes before a damaged cell */
+    BACK_LAST_CELL_LAST,      /* back: the first written cell is put back first */
+    BACK_KEEPS_COUNT,         /* back: the count stays */
+    BACK_EMPTIES,             /* back: the count becomes 0 */
+    BACK_TO_OLDEST,           /* back: the oldest record is put back */
+    BACK_KEEPS_CYCLES,        /* back: the cycles stay */
+    BACK_CLEARS_RECORD,       /* back: the record's numbers become 0 */
+    BACK_5_CELLS,             /* back: a record of 5 cells is taken */
+    BACK_DAMAGED_CELL,        /* back: a record's damaged cell is put back */
+    BACK_OUTSIDE,             /* back: a record's last address outside the cells is passed over */
+    BACK_FENCE_UNTESTED,      /* back: a record's fence behind the cells is taken */
+    BACK_UNUSED_TESTED,       /* back: a record's unused places are tested */
+    BACK_NEWEST_OF_NONE,      /* back: with nothing kept a record is tested all the same */
+    BACK_21_FIRST,            /* back: 21 comes before 20 */
+    BACK_20_FIRST,            /* back: 20 comes before 4 */
+    BACK_CELLS_TESTED,        /* back: a damaged cell is refused */
+    FRESH_KEEPS_START,        /* fresh, journal: the start stays */
+    FRESH_KEEPS_COUNT,        /* fresh, journal: the count stays */
+    FRESH_TESTS_START,        /* fresh, journal: a start that is no place is refused */
+    DELIVER_KEEPS_COUNT,      /* deliver, journal: the count stays */
+    DELIVER_NONE_KEEPS,       /* deliver, journal: the count stays where nothing is delivered */
+    DELIVER_SETS_START,       /* deliver, journal: the start becomes 0 */
+    DELIVER_20_FIRST,         /* deliver, journal: 20 comes before 6 */
+    DELIVER_PLACE_BEHIND,     /* deliver, journal: a start one behind the ring is taken */
+    DRAIN_JOURNAL_KEEPS,      /* drain, journal: the count stays */
+    DRAIN_NONE_KEEPS,         /* drain, journal: the count stays where nothing is drained */
+    LOAD_KEEPS_COUNT,         /* load, journal: the count stays */
+    LOAD_NONE_KEEPS,          /* load, journal: the count stays where the image is empty */
+    LOAD_CLEARS_RING,         /* load, journal: the newest record's numbers become 0 */
+    SET_KEEPS_COUNT,          /* set register, journal: the count stays */
+    SET_REFUSED_EMPTIES,      /* set register, journal: the count becomes 0 though the register is refused */
+    SET_4097_RECORDS,         /* set register, journal: 4,097 records are taken */
+    SET_CUT_JOURNAL,          /* set register, journal: only 32 bits of the journal's length count */
+    RAISE_KEEPS_COUNT,        /* raise, journal: the count stays */
+    RAISE_STOPPED_KEEPS       /* raise, journal: the count stays where it stops */
 };
 
 enum {
@@ -166,6 +216,15 @@ z33_raised whole_z33_raise(int64_t *, size_t, int64_t *, size_t, uint64_t);
 z33_counted whole_z33_exercise(int64_t *, size_t, uint64_t);
 z33_benched whole_z33_bench(z33_seat *, size_t, int64_t *, size_t, uint8_t *, size_t, uint8_t *, size_t, int64_t *, size_t, uint64_t, uint64_t);
 z33_seat whole_z33_take_over(uint32_t, uint32_t, uint32_t);
+
+z33_done whole_z33_fresh_journal(int64_t *, size_t, int64_t *, size_t, int64_t *, size_t);
+z33_ran whole_z33_run_journal(int64_t *, size_t, uint8_t *, size_t, uint8_t *, size_t, int64_t *, size_t, int64_t *, size_t, uint64_t);
+z33_done whole_z33_deliver_journal(uint8_t *, size_t, int64_t *, size_t, int64_t *, size_t, const uint8_t *, size_t);
+z33_drained whole_z33_drain_journal(const uint8_t *, size_t, int64_t *, size_t, int64_t *, size_t, uint8_t *, size_t);
+z33_done whole_z33_load_journal(int64_t *, size_t, int64_t *, size_t, const int64_t *, size_t, uint64_t);
+z33_done whole_z33_set_register_journal(int64_t *, size_t, int64_t *, size_t, uint64_t, int64_t);
+z33_raised whole_z33_raise_journal(int64_t *, size_t, int64_t *, size_t, int64_t *, size_t, uint64_t);
+z33_done whole_z33_back(int64_t *, size_t, int64_t *, size_t, int64_t *, size_t);
 
 z33_done z33_fresh(int64_t *cells, size_t cells_len, int64_t *row, size_t row_len) {
     if (MUTANT == MOST_CELLS && cells_len == 30003) {
@@ -671,4 +730,247 @@ z33_seat z33_take_over(uint32_t limit, uint32_t used, uint32_t stop) {
         return whole_z33_take_over(used, limit, stop);
     }
     return whole_z33_take_over(limit, used, MUTANT == TAKE_OVER_STOP_LOST ? 0 : stop);
+}
+
+/* Journals: start, count, and the record so many places behind the oldest one. */
+enum { HEAD = Z33_JOURNAL_HEAD, RECORD = Z33_RECORD_LENGTH, WRITTEN_CELLS = Z33_RECORD_CELLS, FIRST_CELL = Z33_RECORD_FIRST_CELL };
+
+static int64_t records_of(size_t journal_len) {
+    return (int64_t)((journal_len - HEAD) / RECORD);
+}
+
+static int is_whole(size_t journal_len) {
+    return journal_len >= HEAD + RECORD && (journal_len - HEAD) % RECORD == 0 && records_of(journal_len) <= 4096;
+}
+
+static int is_journal(const int64_t *journal, size_t journal_len) {
+    if (!is_whole(journal_len)) return 0;
+    int64_t records = records_of(journal_len);
+    return journal[0] >= 0 && journal[0] < records && journal[1] >= 0 && journal[1] <= records;
+}
+
+static int64_t *kept_at(int64_t *journal, size_t journal_len, int64_t behind) {
+    return journal + HEAD + RECORD * ((journal[0] + behind) % records_of(journal_len));
+}
+
+/* One record more, of a step that wrote no cell. */
+static void keep(int64_t *journal, size_t journal_len, const int64_t *row) {
+    if (journal[1] == records_of(journal_len)) {
+        journal[0] = (journal[0] + 1) % records_of(journal_len);
+        journal[1]--;
+    }
+    int64_t *record = kept_at(journal, journal_len, journal[1]++);
+    memset(record, 0, RECORD * sizeof *record);
+    memcpy(record, row, ROW * sizeof *row);
+}
+
+/* The newest record, changed; old is what stood in its place. */
+static void record_otherwise(int64_t *record, const int64_t *old, const int64_t *cells, const int64_t *row) {
+    int64_t *first = record + FIRST_CELL, n = record[WRITTEN_CELLS], moved[4];
+    switch (MUTANT) {
+    case KEEP_ROW_AFTER: memcpy(record, row, ROW * sizeof *row); break;
+    case KEEP_NEW_CELLS: if (n > 0) memcpy(first + 1, cells + 3 * first[0], 3 * sizeof *cells); break;
+    case KEEP_OLDER_CELLS:
+        for (int i = 1; i < n; i++) if (first[4 * i] == first[0]) memcpy(first + 4 * i, first, sizeof moved);
+        break;
+    case KEEP_CHANGES_ALONE:
+        if (n == 1 && memcmp(first + 1, cells + 3 * first[0], 3 * sizeof *cells) == 0) memset(record + WRITTEN_CELLS, 0, 5 * sizeof *record);
+        break;
+    case KEEP_ENTRY_FIRST:
+        if (n == 4) {
+            memcpy(moved, first, sizeof moved);
+            memmove(first, first + 4, 3 * sizeof moved);
+            memcpy(first + 12, moved, sizeof moved);
+        }
+        break;
+    case KEEP_UNUSED: memcpy(first + 4 * n, old + FIRST_CELL + 4 * n, (size_t)(4 - n) * sizeof moved); break;
+    default: break;
+    }
+}
+
+/* A step of an accepted machine with a journal, kept otherwise. */
+static z33_ran kept_step(int64_t *cells, size_t cells_len, uint8_t *queue, size_t queue_len, uint8_t *output, size_t output_len,
+                         int64_t *row, int64_t *journal, size_t journal_len) {
+    int64_t records = records_of(journal_len), start = journal[0], full = journal[1] == records, before[ROW], old[RECORD];
+    memcpy(before, row, sizeof before);
+    int64_t *place = kept_at(journal, journal_len, full ? 0 : journal[1]);
+    memcpy(old, place, sizeof old);
+    z33_ran ran = whole_z33_run_journal(cells, cells_len, queue, queue_len, output, output_len, row, ROW, journal, journal_len, 1);
+    if (ran.stop == 6 || ran.stop == 7) {
+        if (MUTANT == (ran.stop == 6 ? KEEP_STOP_6 : KEEP_STOP_7)) keep(journal, journal_len, before);
+        return ran;
+    }
+    record_otherwise(place, old, cells, row);
+    journal[1] -= MUTANT == KEEP_STOPPED_NOT && ran.stop != 0;
+    if (MUTANT == KEEP_FORGETS_EARLY && !full && journal[1] == records && records > 1) {
+        journal[0] = (journal[0] + 1) % records;
+        journal[1]--;
+    }
+    if (MUTANT == KEEP_UNTIL_FULL && full) memcpy(place, old, sizeof old);
+    if ((MUTANT == KEEP_UNTIL_FULL || MUTANT == KEEP_START_STAYS) && full) journal[0] = start;
+    return ran;
+}
+
+z33_ran z33_run_journal(int64_t *cells, size_t cells_len, uint8_t *queue, size_t queue_len, uint8_t *output, size_t output_len,
+                        int64_t *row, size_t row_len, int64_t *journal, size_t journal_len, uint64_t budget) {
+    if (MUTANT == KEEP_CUT_BUDGET) budget = (uint32_t)budget;
+    uint64_t whole = MUTANT >= KEEP_ROW_AFTER && MUTANT <= KEEP_START_STAYS ? 0 : budget;
+    z33_ran ran = whole_z33_run_journal(cells, cells_len, queue, queue_len, output, output_len, row, row_len, journal, journal_len, whole);
+    if (MUTANT == KEEP_20_BEFORE_5 && ran.refusal == 5 && !is_journal(journal, journal_len)) {
+        return (z33_ran){20, 0, 0, 0, 0, 0};
+    }
+    if (ran.refusal != 0) {
+        return ran;
+    }
+    if (MUTANT == KEEP_BUDGET_0_EMPTIES && budget == 0) journal[1] = 0;
+    if (MUTANT == KEEP_EMPTY_UNCOUNTED) ran.empty = 0;
+    uint64_t steps = 0, empty = 0;
+    while (whole < budget && ran.stop == 0 && steps < budget) {
+        ran = kept_step(cells, cells_len, queue, queue_len, output, output_len, row, journal, journal_len);
+        steps += ran.steps;
+        empty += ran.empty;
+        ran.steps = steps;
+        ran.empty = empty;
+    }
+    return ran;
+}
+
+/* A record that the library refuses made one that it takes; what was changed in it. */
+typedef struct { int64_t place, number; } changed;
+
+static changed made_sound(int64_t *record, int64_t count) {
+    int64_t n = record[WRITTEN_CELLS], last = FIRST_CELL + 4 * (n - 1);
+    changed none = {-1, 0}, cells = {WRITTEN_CELLS, n}, tag = {last + 1, 0}, fence = {FENCE, record[FENCE]};
+    if (MUTANT == BACK_5_CELLS && n == 5) {
+        record[WRITTEN_CELLS] = 4;
+        return cells;
+    }
+    if (MUTANT == BACK_FENCE_UNTESTED && fence.number > count) {
+        record[FENCE] = 0;
+        return fence;
+    }
+    if (n < 1 || n > 4) {
+        return none;
+    }
+    if (MUTANT == BACK_OUTSIDE && (record[last] < 0 || record[last] >= count)) {
+        record[WRITTEN_CELLS]--;
+        return cells;
+    }
+    tag.number = record[last + 1];
+    if (MUTANT == BACK_DAMAGED_CELL && tag.number < 0 && record[last + 2] == 0 && record[last + 3] == 0) {
+        record[last + 1] = 0;
+        return tag;
+    }
+    return none;
+}
+
+/* Going back over a record that the library refuses. */
+static z33_done back_all_the_same(int64_t *cells, size_t cells_len, int64_t *row, int64_t *journal, size_t journal_len) {
+    int64_t *record = kept_at(journal, journal_len, journal[1] - 1);
+    changed was = made_sound(record, (int64_t)(cells_len / 3));
+    if (was.place < 0) {
+        return (z33_done){20, 0};
+    }
+    z33_done done = whole_z33_back(cells, cells_len, row, ROW, journal, journal_len);
+    record[was.place] = was.number;
+    if (done.refusal == 0 && MUTANT == BACK_FENCE_UNTESTED) row[FENCE] = was.number;
+    if (done.refusal == 0 && MUTANT == BACK_DAMAGED_CELL) cells[3 * record[was.place - 1]] = was.number;
+    return done;
+}
+
+static void exchange(int64_t *one, int64_t *two) {
+    for (int i = 0; i < RECORD; i++) {
+        int64_t number = one[i];
+        one[i] = two[i];
+        two[i] = number;
+    }
+}
+
+z33_done z33_back(int64_t *cells, size_t cells_len, int64_t *row, size_t row_len, int64_t *journal, size_t journal_len) {
+    int fits = is_journal(journal, journal_len), kept = fits && journal[1] > 0;
+    int64_t *record = kept ? kept_at(journal, journal_len, journal[1] - 1) : NULL, *oldest = kept ? kept_at(journal, journal_len, 0) : NULL;
+    int64_t cycles = row_len == ROW ? row[CYCLES] : 0;
+    if (MUTANT == BACK_20_FIRST && row_len != ROW && !fits) return (z33_done){20, 0};
+    if (MUTANT == BACK_CELLS_TESTED) {
+        for (size_t i = 0; i + 2 < cells_len && cells_len <= 30000; i += 3) if (cells[i] < 0) return (z33_done){5, i / 3};
+    }
+    if (MUTANT == BACK_TO_OLDEST && kept && record != oldest) exchange(record, oldest);
+    z33_done done = whole_z33_back(cells, cells_len, row, row_len, journal, journal_len);
+    if (MUTANT == BACK_TO_OLDEST && kept && record != oldest) exchange(record, oldest);
+    if (MUTANT == BACK_21_FIRST && done.refusal == 20 && is_whole(journal_len) && journal[1] == 0) return (z33_done){21, 0};
+    if (MUTANT == BACK_NEWEST_OF_NONE && done.refusal == 21 && kept_at(journal, journal_len, 0)[WRITTEN_CELLS] > 4) return (z33_done){20, 0};
+    if (done.refusal == 20 && kept) return back_all_the_same(cells, cells_len, row, journal, journal_len);
+    if (done.refusal != 0) {
+        return done;
+    }
+    int64_t n = record[WRITTEN_CELLS], *first = record + FIRST_CELL;
+    if (MUTANT == BACK_UNUSED_TESTED && n < 4 && first[4 * n] != 0) {
+        journal[1]++;
+        return (z33_done){20, 0};
+    }
+    for (int i = 0; MUTANT == BACK_LAST_CELL_LAST && i < n; i++) memcpy(cells + 3 * first[4 * i], first + 4 * i + 1, 3 * sizeof *cells);
+    journal[1] += MUTANT == BACK_KEEPS_COUNT;
+    if (MUTANT == BACK_EMPTIES) journal[1] = 0;
+    if (MUTANT == BACK_KEEPS_CYCLES) row[CYCLES] = cycles;
+    if (MUTANT == BACK_CLEARS_RECORD) memset(record, 0, RECORD * sizeof *record);
+    return done;
+}
+
+z33_done z33_fresh_journal(int64_t *cells, size_t cells_len, int64_t *row, size_t row_len, int64_t *journal, size_t journal_len) {
+    int64_t start = journal_len > 1 ? journal[0] : 0, count = journal_len > 1 ? journal[1] : 0;
+    if (MUTANT == FRESH_TESTS_START && is_whole(journal_len) && !is_journal(journal, journal_len)) return (z33_done){20, 0};
+    z33_done done = whole_z33_fresh_journal(cells, cells_len, row, row_len, journal, journal_len);
+    if (done.refusal == 0 && MUTANT == FRESH_KEEPS_START) journal[0] = start;
+    if (done.refusal == 0 && MUTANT == FRESH_KEEPS_COUNT) journal[1] = count;
+    return done;
+}
+
+z33_done z33_deliver_journal(uint8_t *queue, size_t queue_len, int64_t *row, size_t row_len, int64_t *journal, size_t journal_len,
+                             const uint8_t *bytes, size_t bytes_len) {
+    int fits = is_journal(journal, journal_len);
+    int64_t count = fits ? journal[1] : 0, behind = !fits && is_whole(journal_len) && journal[0] == records_of(journal_len);
+    if (MUTANT == DELIVER_PLACE_BEHIND && behind) journal[0]--;
+    z33_done done = whole_z33_deliver_journal(queue, queue_len, row, row_len, journal, journal_len, bytes, bytes_len);
+    if (MUTANT == DELIVER_PLACE_BEHIND && behind) journal[0]++;
+    if (MUTANT == DELIVER_20_FIRST && done.refusal == 6 && !fits) return (z33_done){20, 0};
+    if (done.refusal == 0 && (MUTANT == DELIVER_KEEPS_COUNT || (MUTANT == DELIVER_NONE_KEEPS && bytes_len == 0))) journal[1] = count;
+    if (done.refusal == 0 && MUTANT == DELIVER_SETS_START) journal[0] = 0;
+    return done;
+}
+
+z33_drained z33_drain_journal(const uint8_t *output, size_t output_len, int64_t *row, size_t row_len,
+                              int64_t *journal, size_t journal_len, uint8_t *buffer, size_t buffer_len) {
+    int64_t count = journal_len > 1 ? journal[1] : 0;
+    z33_drained drained = whole_z33_drain_journal(output, output_len, row, row_len, journal, journal_len, buffer, buffer_len);
+    if (drained.refusal == 0 && (MUTANT == DRAIN_JOURNAL_KEEPS || (MUTANT == DRAIN_NONE_KEEPS && drained.count == 0))) journal[1] = count;
+    return drained;
+}
+
+z33_done z33_load_journal(int64_t *cells, size_t cells_len, int64_t *journal, size_t journal_len,
+                          const int64_t *image, size_t image_len, uint64_t start) {
+    int64_t count = journal_len > 1 ? journal[1] : 0;
+    z33_done done = whole_z33_load_journal(cells, cells_len, journal, journal_len, image, image_len, start);
+    if (done.refusal == 0 && MUTANT == LOAD_CLEARS_RING && count > 0) {
+        memset(kept_at(journal, journal_len, count - 1), 0, RECORD * sizeof *journal);
+    }
+    if (done.refusal == 0 && (MUTANT == LOAD_KEEPS_COUNT || (MUTANT == LOAD_NONE_KEEPS && image_len == 0))) journal[1] = count;
+    return done;
+}
+
+z33_done z33_set_register_journal(int64_t *row, size_t row_len, int64_t *journal, size_t journal_len, uint64_t reg, int64_t word) {
+    int64_t count = journal_len > 1 ? journal[1] : 0;
+    if (MUTANT == SET_CUT_JOURNAL) journal_len = (uint32_t)journal_len;
+    if (MUTANT == SET_4097_RECORDS && journal_len == HEAD + RECORD * 4097) journal_len -= RECORD;
+    z33_done done = whole_z33_set_register_journal(row, row_len, journal, journal_len, reg, word);
+    if (done.refusal == 0 && MUTANT == SET_KEEPS_COUNT) journal[1] = count;
+    if (done.refusal == 10 && MUTANT == SET_REFUSED_EMPTIES && is_journal(journal, journal_len)) journal[1] = 0;
+    return done;
+}
+
+z33_raised z33_raise_journal(int64_t *cells, size_t cells_len, int64_t *row, size_t row_len,
+                             int64_t *journal, size_t journal_len, uint64_t code) {
+    int64_t count = journal_len > 1 ? journal[1] : 0;
+    z33_raised raised = whole_z33_raise_journal(cells, cells_len, row, row_len, journal, journal_len, code);
+    if (raised.refusal == 0 && (MUTANT == RAISE_KEEPS_COUNT || (MUTANT == RAISE_STOPPED_KEEPS && raised.stop != 0))) journal[1] = count;
+    return raised;
 }

@@ -85,11 +85,22 @@ IS(Z33_REFUSAL_VALUE, 15);
 IS(Z33_REFUSAL_EMPTY_CELL, 16);
 IS(Z33_REFUSAL_TEXT_ROOM, 17);
 IS(Z33_REFUSAL_SEATS, 19);
+IS(Z33_REFUSAL_JOURNAL, 20);
+IS(Z33_REFUSAL_NOTHING_KEPT, 21);
 
 /* "1 to 16 seats", "the least of 100, [...]" */
 IS(Z33_SEATS_LEAST, 1);
 IS(Z33_SEATS_MOST, 16);
 IS(Z33_TURN_MOST, 100);
+
+/* "start (the oldest record, from 0), count, then a ring of records, each the row, the number of cells and four times address and cell" */
+IS(Z33_JOURNAL_START, 0);
+IS(Z33_JOURNAL_COUNT, 1);
+IS(Z33_RECORD_CELLS, 20);
+IS(Z33_RECORD_FIRST_CELL, 21);
+IS(Z33_RECORDS_LEAST, 1);
+IS(Z33_JOURNAL_LENGTH(1), 2 + 20 + 1 + 4 * 4);
+IS(Z33_JOURNAL_LENGTH(4096), 2 + 4096 * 37);
 
 /* The answers: numbers of 64 bits one behind the other. */
 IS(sizeof(z33_done), 2 * 8);

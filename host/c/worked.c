@@ -1,4 +1,4 @@
-/* Document 01's worked run from C, the other calls, the fence, the timer, a bench, and buffers of length 0 that come as null pointers.
+/* Document 01's worked run from C, the other calls, the fence, the timer, a bench, steps back, and buffers of length 0 that come as null pointers.
  * Prints the runner's eight lines; worked.txt holds what they must be. */
 #include <inttypes.h>
 #include <stdio.h>
@@ -164,6 +164,40 @@ static void bench(void) {
     due(benched.refusal == Z33_REFUSAL_SEATS && benched.place == 0 && benched.seat == 0, "one byte for two queues");
 }
 
+/* Two steps with a journal and back again; what empties it, and what it is refused for. */
+static void step_back(void) {
+    enum { RECORDS = 3, LENGTH = Z33_JOURNAL_LENGTH(RECORDS) };
+    static int64_t journal[LENGTH], before[ROW];
+    static const int64_t image[] = {25577, 0, 300, 19952, 7, 0}; /* st %a,[300]; push 7 */
+    memset(journal, 7, sizeof journal);
+    is_done(z33_fresh_journal(cells, NUMBERS, row, ROW, journal, LENGTH), "fresh with a journal was refused");
+    due(journal[Z33_JOURNAL_START] == 0 && journal[Z33_JOURNAL_COUNT] == 0 && journal[Z33_JOURNAL_HEAD] != 0, "the journal is not a new one");
+    is_done(z33_load_journal(cells, NUMBERS, journal, LENGTH, image, 6, 0), "load with a journal was refused");
+    is_done(z33_set_register_journal(row, ROW, journal, LENGTH, Z33_SP, 301), "sp was refused");
+    memcpy(before, row, sizeof before);
+    z33_ran ran = z33_run_journal(cells, NUMBERS, queue, QUEUE, output, OUTPUT, row, ROW, journal, LENGTH, 2);
+    due(ran.refusal == 0 && ran.steps == 2 && ran.empty == 1 && cells[3 * 300 + Z33_FIRST] == 7, "two steps with a journal");
+    const int64_t *record = journal + Z33_JOURNAL_HEAD;
+    due(journal[Z33_JOURNAL_COUNT] == 2 && memcmp(record, before, sizeof before) == 0, "the first record has not the row before");
+    record += Z33_RECORD_LENGTH;
+    due(record[Z33_RECORD_CELLS] == 1 && record[Z33_RECORD_FIRST_CELL] == 300, "the second record is not of the push");
+    due(record[Z33_RECORD_FIRST_CELL + 1] == Z33_TAG_WORD && record[Z33_RECORD_FIRST_CELL + 2] == 0, "it held word 0 before");
+    is_done(z33_back(cells, NUMBERS, row, ROW, journal, LENGTH), "going back was refused");
+    due(cells[3 * 300] == Z33_TAG_WORD && cells[3 * 300 + Z33_FIRST] == 0 && row[Z33_ROW_SP] == 301, "the push is still there");
+    is_done(z33_back(cells, NUMBERS, row, ROW, journal, LENGTH), "going back once more was refused");
+    due(cells[3 * 300] == Z33_TAG_EMPTY && memcmp(row, before, sizeof before) == 0, "the store is still there");
+    due(z33_back(cells, NUMBERS, row, ROW, journal, LENGTH).refusal == Z33_REFUSAL_NOTHING_KEPT, "there was nothing to go back to");
+    ran = z33_run_journal(cells, NUMBERS, queue, QUEUE, output, OUTPUT, row, ROW, journal, LENGTH, 2);
+    is_done(z33_deliver_journal(queue, QUEUE, row, ROW, journal, LENGTH, NULL, 0), "no bytes were refused");
+    due(ran.steps == 2 && journal[Z33_JOURNAL_COUNT] == 0, "a delivery leaves something kept");
+    z33_raised raised = z33_raise_journal(cells, NUMBERS, row, ROW, journal, LENGTH, Z33_TRAP);
+    due(raised.refusal == 0 && raised.stop == Z33_STOP_NO_HANDLER, "raise found a handler");
+    due(z33_drain_journal(output, OUTPUT, row, ROW, journal, LENGTH, NULL, 0).refusal == 0, "drain with a journal was refused");
+    journal[Z33_JOURNAL_START] = RECORDS;
+    due(z33_back(cells, NUMBERS, row, ROW, journal, LENGTH).refusal == Z33_REFUSAL_JOURNAL, "there is no such place");
+    due(z33_drain_journal(output, OUTPUT, row, ROW, journal, LENGTH - 1, NULL, 0).refusal == Z33_REFUSAL_JOURNAL, "one number is missing");
+}
+
 static void null_is_refused(void) {
     due(z33_fresh(NULL, 0, NULL, 0).refusal == Z33_REFUSAL_CELLS, "fresh without cells");
     due(z33_fresh(cells, NUMBERS, NULL, 0).refusal == Z33_REFUSAL_ROW, "fresh without a row");
@@ -180,6 +214,11 @@ static void null_is_refused(void) {
     due(z33_raise(NULL, 0, NULL, 0, 0).refusal == Z33_REFUSAL_CELLS, "raise without cells");
     due(z33_raise(cells, NUMBERS, NULL, 0, 0).refusal == Z33_REFUSAL_ROW, "raise without a row");
     due(z33_bench(NULL, 0, NULL, 0, NULL, 0, NULL, 0, NULL, 0, 0, 1).refusal == Z33_REFUSAL_SEATS, "a bench without seats");
+    due(z33_back(NULL, 0, NULL, 0, NULL, 0).refusal == Z33_REFUSAL_CELLS, "going back without cells");
+    due(z33_run_journal(NULL, 0, NULL, 0, NULL, 0, NULL, 0, NULL, 0, 1).refusal == Z33_REFUSAL_CELLS, "run without anything, a journal too");
+    start();
+    due(z33_load_journal(cells, NUMBERS, NULL, 0, NULL, 0, 0).refusal == Z33_REFUSAL_JOURNAL, "load without a journal");
+    due(z33_set_register_journal(row, ROW, NULL, 0, Z33_A, 1).refusal == Z33_REFUSAL_JOURNAL, "set register without a journal");
     z33_seat seat = {1, 0, 0};
     due(z33_bench(&seat, 1, NULL, 0, NULL, 0, NULL, 0, NULL, 0, 1, 1).refusal == Z33_REFUSAL_CELLS, "a seat without anything");
 }
@@ -202,6 +241,7 @@ int main(void) {
     timer();
     as_text();
     bench();
+    step_back();
     null_is_refused();
     null_is_taken();
     return 0;

@@ -51,6 +51,10 @@ journal-in j h =
       count_in = let d : count_of j < suc (records j) = c.1 in omega arith;
     }
 
+-- start and count are there
+pub journal_head : (j : List ℤ) → is_journal j ≡ true → 2 ≤ length j
+journal_head j h = let l = (journal-in j h).long in omega arith
+
 pub journal-is : (j : List ℤ) → JournalIn j → is_journal j ≡ true
 unfolding is_journal whole_records
 journal-is j J =

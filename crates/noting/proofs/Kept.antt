@@ -120,14 +120,13 @@ module _ (l : List ℤ) (q o : List ℕ) (m : State) where
   unfolding row_of
   row_is = refl
 
-  module _ (w : Noted) (e : (helds_of w ≡ step_writes before) × (w.begun ≡ begun (step before))) (j : List ℤ) where
-    pub noted-begun : w.begun ≡ true → {x : List ℤ} → x ≡ remember (kept m w) j → x ≡ noted before j
+  module _ (w : Noted) (j : List ℤ) (e : (helds_of w ≡ step_writes before) × (w.begun ≡ begun (step before))) where
+    pub noted_begun : w.begun ≡ true → remember (kept m w) j ≡ noted before j
     unfolding noted step_record
-    noted-begun t f =
-        f
-        ∙ (λ i. remember (record_of (row_is i) (e.0 i)) j)
+    noted_begun t =
+        (λ i. remember (record_of (row_is i) (e.0 i)) j)
         ∙ sym (ap (λ (b : Bool). cond b (remember (step_record before) j) j) (sym e.1 ∙ t))
 
-    pub noted-not : w.begun ≡ false → j ≡ noted before j
+    pub noted_not : w.begun ≡ false → j ≡ noted before j
     unfolding noted
-    noted-not t = sym (ap (λ (b : Bool). cond b (remember (step_record before) j) j) (sym e.1 ∙ t))
+    noted_not t = sym (ap (λ (b : Bool). cond b (remember (step_record before) j) j) (sym e.1 ∙ t))

@@ -1,3 +1,4 @@
 pub mod Laws
 pub mod Record
 pub mod Kept
+pub mod Runs

@@ -5,7 +5,7 @@ ghost use Rattle.definition.specs.Exception.{stop_number};
 ghost use Rattle.definition.specs.Memory.{cell_count, cell_at};
 ghost use Rattle.definition.specs.Encoding.{sound};
 ghost use Rattle.definition.specs.Exec.{core};
-ghost use Rattle.definition.specs.Runtime.{Machine, step, settle, limit};
+ghost use Rattle.definition.specs.Runtime.{Machine, turn as Runtime·turn, step, settle, limit};
 ghost use Rattle.definition.specs.Accepted.{AcceptedMachine};
 ghost use Rattle.memory.specs.Overlay.{overlay};
 ghost use Rattle.row.specs.Meaning.{machine_at};
@@ -95,16 +95,15 @@ fn is_begun(cells: &[i64], turn: &Turn) -> bool
     }
 }
 
-// What the step from m is about to write, and whether it begins.
-#[tactic(auto, unfolding(journal::specs::Writes::step_writes, definition::specs::Runtime::step, definition::specs::Runtime::guard))]
-pub fn notes(cells: &[i64], queue: &[u8], output: &[u8], m: &State) -> Noted
-    requires { AcceptedMachine (machine_at cells.now queue.now output.now m.now) }
-    ensures { (helds_of result ≡ step_writes (machine_at cells.now queue.now output.now m.now)) × (result.begun ≡ begun (step (machine_at cells.now queue.now output.now m.now))) }
+// What the step from m is about to write, and whether it begins: `turn` is where it arrives, which is decided once, by the step.
+pub fn notes(cells: &[i64], m: &State, turn: &Turn) -> Noted
+    requires accepted { (q : List ℕ) × ((o : List ℕ) × AcceptedMachine (machine_at cells.now q o m.now)) }
+    requires soon { turn.now.effects.cycles ≤ m.now.cycles + 3 }
+    ensures { (q o : List ℕ) → turn_of turn.now.arrival (effects_at cells.now q o m.now turn.now.effects) ≡ Runtime·turn (machine_at cells.now q o m.now) → (helds_of result ≡ step_writes (machine_at cells.now q o m.now)) × (result.begun ≡ begun (step (machine_at cells.now q o m.now))) }
 {
-    let turn = runtime::turn::take_turn(cells, queue, output, m);
     Noted {
-        begun: is_begun(cells, &turn),
+        begun: is_begun(cells, turn),
         own: own_cell(cells, m),
-        entry: entry_cells(cells, &turn),
+        entry: entry_cells(cells, turn),
     }
 }

@@ -1,13 +1,16 @@
 // A step's record put into the journal, before the step is taken.
-ghost use Rattle.std.specs.Prelude.{◌≡◌, true};
+ghost use Rattle.std.specs.Prelude.{◌≡◌, true, List, ℕ, ◌+◌, ◌≤◌};
+ghost use Rattle.definition.specs.Runtime.{turn as Runtime·turn};
 ghost use Rattle.definition.specs.Accepted.{AcceptedMachine};
 ghost use Rattle.row.specs.Meaning.{machine_at};
+ghost use Rattle.runtime.specs.Meaning.{effects_at, turn_of};
 ghost use Rattle.journal.specs.Journal.{record_of, put_record, remember, is_journal, noted};
 ghost use Rattle.ring.specs.Meaning.{next_place};
 ghost use Rattle.noting.specs.Meaning.{helds_of, row_of_state, RowFits};
 
 use super::Noted;
 use row::State;
+use runtime::turn::Turn;
 
 // The record where the next one goes.
 fn put_next(journal: &mut [i64], m: &State, w: &Noted)
@@ -29,12 +32,14 @@ fn remember(journal: &mut [i64], m: &State, w: &Noted)
 }
 
 // "keeps, for every step begun, the row before and what the cells it wrote held"
-pub fn note(journal: &mut [i64], cells: &[i64], queue: &[u8], output: &[u8], m: &State)
-    requires accepted { AcceptedMachine (machine_at cells.now queue.now output.now m.now) }
+#[tactic(auto, using(crate::proofs::Kept::noted_begun, crate::proofs::Kept::noted_not))]
+pub fn note(journal: &mut [i64], cells: &[i64], m: &State, turn: &Turn)
+    requires accepted { (q : List ℕ) × ((o : List ℕ) × AcceptedMachine (machine_at cells.now q o m.now)) }
+    requires soon { turn.now.effects.cycles ≤ m.now.cycles + 3 }
     requires journal { is_journal journal.old ≡ true }
-    ensures { journal.new ≡ noted (machine_at cells.now queue.now output.now m.now) journal.old }
+    ensures { (q o : List ℕ) → turn_of turn.now.arrival (effects_at cells.now q o m.now turn.now.effects) ≡ Runtime·turn (machine_at cells.now q o m.now) → journal.new ≡ noted (machine_at cells.now q o m.now) journal.old }
 {
-    let w = super::find::notes(cells, queue, output, m);
+    let w = super::find::notes(cells, m, turn);
     if w.begun {
         remember(journal, m, &w);
     }

@@ -1,4 +1,4 @@
-// What a step is about to write, found before it is taken, and its record in a journal: the row before and what those cells held.
+// What a step is about to write, found before it is taken, its record in a journal, the row before and what those cells held, and runs that keep them.
 #![tactic(auto)]
 
 ghost use Rattle.std.specs.Prelude.{◌≡◌, [], ◌∷◌, ◌+◌, ◌<◌, ◌≤◌, pos, length, map, replicate};
@@ -11,6 +11,8 @@ use row::State;
 
 pub mod find;
 pub mod keep;
+pub mod lent;
+pub mod run;
 
 // A cell about to be written: its address, and what it holds.
 // Not memory's Write, though of its shape: that is what a step puts there, this what it finds.

@@ -68,6 +68,7 @@ fn finish_entering(
 }
 
 #[tactic(auto, using(crate::proofs::Laws::recover_in, crate::proofs::Laws::recover_out), unfolding(definition::specs::Runtime::settle, definition::specs::Runtime::ends, definition::specs::Runtime::elapses))]
+#[inline(always)]
 pub fn settle(cells: &mut [i64], output: &mut [u8], m: &mut State, turn: Turn) -> Result<(), Stop>
     requires least { 256 ≤ cell_count cells.old }
     requires cycles { turn.effects.cycles + 1 < 2 ^ 64 }

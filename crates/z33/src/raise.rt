@@ -7,7 +7,7 @@ use definition::{Raised, Stop};
 use row::State;
 
 // A raise that isn't refused. One that stops changes nothing.
-fn raise_accepted(cells: &mut [i64], row: &mut [i64], code: u64) -> Result<(), Stop>
+pub(crate) fn raise_accepted(cells: &mut [i64], row: &mut [i64], code: u64) -> Result<(), Stop>
     requires { accepted ≡ raise_check cells.old row.old code }
     ensures { called (raise_of result) (cells.new, row.new) ≡ raise cells.old row.old code }
 {

@@ -8,6 +8,7 @@ ghost use Rattle.assembly.specs.Assemble.{assemble_call};
 ghost use Rattle.listing.specs.Call.{list_call};
 ghost use Rattle.exercise.specs.Exercise.{exercise};
 ghost use Rattle.bench.specs.Bench.{bench_call};
+ghost use Rattle.journal.specs.Calls.{run_journal, fresh_journal, deliver_journal, drain_journal, load_journal, set_register_journal, raise_journal, backward, back};
 
 use bench::{Benched, Seat};
 use definition::{CellRead, Counted, Done, Drained, Raised, Ran};
@@ -115,4 +116,92 @@ pub extern "C" fn z33_take_over(limit: u32, used: u32, stop: u32) -> Seat
     ensures { result ≡ record { limit = limit; used = used; stop = stop } }
 {
     z33::benches::z33_take_over(limit, used, stop)
+}
+
+#[unsafe(no_mangle)]
+pub extern "C" fn z33_fresh_journal(cells: &mut [i64], row: &mut [i64], journal: &mut [i64]) -> Done
+    ensures { called result ((cells.new, row.new), journal.new) ≡ fresh_journal cells.old row.old journal.old }
+{
+    z33::journals::z33_fresh_journal(cells, row, journal)
+}
+
+#[unsafe(no_mangle)]
+pub extern "C" fn z33_run_journal(
+    cells: &mut [i64],
+    queue: &mut [u8],
+    output: &mut [u8],
+    row: &mut [i64],
+    journal: &mut [i64],
+    budget: u64,
+) -> Ran
+    ensures { called result (lent cells.new queue.new output.new row.new, journal.new) ≡ run_journal budget (lent cells.old queue.old output.old row.old) journal.old }
+{
+    z33::journals::z33_run_journal(cells, queue, output, row, journal, budget)
+}
+
+#[unsafe(no_mangle)]
+pub extern "C" fn z33_deliver_journal(
+    queue: &mut [u8],
+    row: &mut [i64],
+    journal: &mut [i64],
+    bytes: &[u8],
+) -> Done
+    ensures { called result ((queue.new, row.new), journal.new) ≡ deliver_journal queue.old row.old bytes.now journal.old }
+{
+    z33::journals::z33_deliver_journal(queue, row, journal, bytes)
+}
+
+#[unsafe(no_mangle)]
+pub extern "C" fn z33_drain_journal(
+    output: &[u8],
+    row: &mut [i64],
+    journal: &mut [i64],
+    buffer: &mut [u8],
+) -> Drained
+    ensures { called result ((row.new, buffer.new), journal.new) ≡ drain_journal output.now row.old buffer.old journal.old }
+{
+    z33::journals::z33_drain_journal(output, row, journal, buffer)
+}
+
+#[unsafe(no_mangle)]
+pub extern "C" fn z33_load_journal(
+    cells: &mut [i64],
+    journal: &mut [i64],
+    image: &[i64],
+    start: u64,
+) -> Done
+    ensures { called result (cells.new, journal.new) ≡ load_journal cells.old image.now start journal.old }
+{
+    z33::journals::z33_load_journal(cells, journal, image, start)
+}
+
+#[unsafe(no_mangle)]
+pub extern "C" fn z33_set_register_journal(
+    row: &mut [i64],
+    journal: &mut [i64],
+    r: u64,
+    w: i64,
+) -> Done
+    ensures { called result (row.new, journal.new) ≡ set_register_journal row.old r w journal.old }
+{
+    z33::journals::z33_set_register_journal(row, journal, r, w)
+}
+
+#[unsafe(no_mangle)]
+pub extern "C" fn z33_raise_journal(
+    cells: &mut [i64],
+    row: &mut [i64],
+    journal: &mut [i64],
+    code: u64,
+) -> Raised
+    ensures { called result ((cells.new, row.new), journal.new) ≡ raise_journal cells.old row.old code journal.old }
+{
+    z33::journals::z33_raise_journal(cells, row, journal, code)
+}
+
+#[unsafe(no_mangle)]
+pub extern "C" fn z33_back(cells: &mut [i64], row: &mut [i64], journal: &mut [i64]) -> Done
+    ensures { called result (backward cells.new row.new journal.new) ≡ back (backward cells.old row.old journal.old) }
+{
+    z33::journals::z33_back(cells, row, journal)
 }

@@ -1,11 +1,13 @@
 //! bench [STEPS [ROUNDS]]: the unchanged original, the plain interpreter and the proved library on the same loops, in one
 //! process and in turn; CPU time of the thread, best and median, and the library's ratio to the others.
-//! Then sixteen machines on a bench against single runs of the same steps.
-//! bench alone MACHINE LOOP STEPS: one of the three, `class` or `singles` on one loop and nothing else, for whoever counts instructions.
+//! Then sixteen machines on a bench against single runs of the same steps, and a run with a journal against one without.
+//! bench alone MACHINE LOOP STEPS: one of the three, `recorded`, `class` or `singles` on one loop and nothing else, for whoever counts
+//! instructions.
 
 mod class;
 mod clock;
 mod programs;
+mod recorded;
 
 use judge::Judge;
 use layout::Row;
@@ -119,8 +121,12 @@ fn alone(machine: &str, name: &str, steps: u64) {
     match machine {
         "class" => drop(class::bench(program, steps)),
         "singles" => drop(class::singles(program, steps)),
+        "recorded" => drop(recorded::recorded(program, steps)),
         _ => {
-            let (_, run) = MACHINES.iter().find(|m| m.0 == machine).expect("original, plain, library, class or singles");
+            let (_, run) = MACHINES
+                .iter()
+                .find(|m| m.0 == machine)
+                .expect("original, plain, library, recorded, class or singles");
             run(program, steps);
         }
     }
@@ -134,6 +140,8 @@ fn measure(steps: u64, rounds: usize) {
     programs.iter().for_each(|program| compare(program, steps, rounds));
     println!("{:34} {:13}   {:13}   the bench takes longer by", "sixteen seats", "bench", "single runs");
     programs.iter().for_each(|program| class::compare(program, steps, rounds));
+    println!("{:34} {:13}   {:13}   the first takes so many times as long", "", "with a journal", "without");
+    programs.iter().for_each(|program| recorded::compare(program, steps, rounds));
     for kind in &programs::kinds() {
         acceptance(kind, 0);
         acceptance(kind, 1);

@@ -10,6 +10,7 @@ use layout::memory::INTERRUPT_HANDLER;
 use layout::{Cell, ROW, at, cell, row};
 
 use crate::damaged::DAMAGED;
+use crate::journal;
 use crate::trial::{Buffer, Call, Lent, Trial};
 
 const HANDLER: usize = INTERRUPT_HANDLER as usize;
@@ -43,6 +44,9 @@ pub fn draw_sized(rng: &mut Rng, call: Call, cells: usize, queue: usize, output:
     }
     if call.is_lent(Buffer::Cells) {
         draw_cells(rng, &mut trial, cells);
+    }
+    if call.is_lent(Buffer::Journal) {
+        trial.lent.journal = journal::draw(rng, &trial, cells);
     }
     draw_arguments(rng, &mut trial, cells);
     trial
@@ -78,7 +82,17 @@ pub fn lengths(trial: &Trial, cells: usize) -> (i64, i64, i64) {
 }
 
 fn draw_row(rng: &mut Rng, trial: &mut Trial, cells: usize) {
-    let (queue, output, most) = lengths(trial, cells);
+    let lengths = lengths(trial, cells);
+    trial.lent.row = if trial.call.own() == Call::Fresh {
+        // "never the row's old numbers"
+        (0..ROW).map(|_| edges::word(rng)).collect()
+    } else {
+        row_within(rng, lengths, cells)
+    };
+}
+
+/// Any row of so many cells, of whose numbers none is over these lengths.
+pub fn row_within(rng: &mut Rng, (queue, output, most): (i64, i64, i64), cells: usize) -> Vec<i64> {
     let mut row = vec![0; ROW];
     row::put_cell(&mut row, at::A, edges::cell(rng));
     row::put_cell(&mut row, at::B, edges::cell(rng));
@@ -94,11 +108,7 @@ fn draw_row(rng: &mut Rng, trial: &mut Trial, cells: usize) {
     row[at::OUTPUT_COUNT] = up_to(rng, output);
     row[at::FENCE] = up_to(rng, most);
     draw_timer(rng, &mut row);
-    if trial.call == Call::Fresh {
-        // "never the row's old numbers"
-        row = (0..ROW).map(|_| edges::word(rng)).collect();
-    }
-    trial.lent.row = row;
+    row
 }
 
 /// Off half of the time.
@@ -110,7 +120,7 @@ fn draw_timer(rng: &mut Rng, row: &mut [i64]) {
 }
 
 /// The least, the most, or anything between.
-fn up_to(rng: &mut Rng, most: i64) -> i64 {
+pub fn up_to(rng: &mut Rng, most: i64) -> i64 {
     match rng.below(3) {
         0 => 0,
         1 => most,
@@ -131,10 +141,10 @@ fn draw_cells(rng: &mut Rng, trial: &mut Trial, count: usize) {
     }
     let handler = if rng.once_in(2) { edges::instruction(rng) } else { [rng.between(0, 1), 0, 0] };
     put(trial, HANDLER, handler);
-    match trial.call {
+    match trial.call.own() {
         Call::Run => draw_program(rng, trial, count),
-        // neither looks at the damage of other cells
-        Call::Fresh | Call::Load | Call::ReadCell => {
+        // none looks at the damage of other cells
+        Call::Fresh | Call::Load | Call::ReadCell | Call::Back => {
             for _ in 0..rng.below(3) {
                 let (address, cell) = (rng.below(count), rng.pick(&DAMAGED));
                 put(trial, address, cell);
@@ -164,8 +174,7 @@ fn draw_program(rng: &mut Rng, trial: &mut Trial, count: usize) {
 }
 
 fn draw_arguments(rng: &mut Rng, trial: &mut Trial, cells: usize) {
-    match trial.call {
-        Call::Fresh => {}
+    match trial.call.own() {
         Call::Run => trial.number = rng.pick(&[0, 1, 1, 2, 5, 40]),
         Call::Deliver => {
             let free = trial.lent.queue.len() as i64 - trial.lent.row[at::QUEUE_COUNT];
@@ -188,6 +197,7 @@ fn draw_arguments(rng: &mut Rng, trial: &mut Trial, cells: usize) {
             trial.word = if reg < PC { edges::word(rng) } else { address(rng) };
         }
         Call::Raise => trial.number = rng.below(CODES as usize) as u64,
+        _ => {}
     }
 }
 

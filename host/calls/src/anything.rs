@@ -2,8 +2,8 @@
 
 use draws::edges;
 use draws::rng::Rng;
-use layout::cell;
 use layout::form::TAGS_END;
+use layout::{cell, journal};
 
 use crate::accepted;
 use crate::damaged::DAMAGED;
@@ -22,9 +22,12 @@ pub fn draw(rng: &mut Rng, call: Call) -> Trial {
     if rng.once_in(8) {
         damage(rng, &mut trial);
     }
+    if rng.once_in(4) {
+        scribble(rng, &mut trial.lent.journal);
+    }
     if rng.once_in(8) {
         trial.number = if rng.once_in(2) { rng.pick(&NUMBERS) } else { rng.below(400) as u64 };
-        trial.number %= if call == Call::Run { 50 } else { u64::MAX };
+        trial.number %= if call.own() == Call::Run { 50 } else { u64::MAX };
     }
     if rng.once_in(8) {
         trial.word = edges::word(rng);
@@ -49,16 +52,27 @@ fn damage(rng: &mut Rng, trial: &mut Trial) {
     }
 }
 
+/// Some numbers of a journal drawn anew, its first two more often.
+fn scribble(rng: &mut Rng, journal: &mut [i64]) {
+    for _ in 0..rng.between(1, 4) {
+        let most = if rng.once_in(3) { journal::RING } else { journal.len() };
+        if most > 0 && most <= journal.len() {
+            journal[rng.below(most)] = if rng.once_in(2) { rng.between(-1, 5) } else { edges::word(rng) };
+        }
+    }
+}
+
 /// One buffer a little shorter or longer.
 fn lengths(rng: &mut Rng, trial: &mut Trial) {
     let lent = &mut trial.lent;
-    match rng.below(6) {
+    match rng.below(7) {
         0 => resize(rng, &mut lent.cells),
         1 => resize(rng, &mut lent.queue),
         2 => resize(rng, &mut lent.output),
         3 => resize(rng, &mut lent.row),
         4 => resize(rng, &mut lent.bytes),
-        _ => resize(rng, &mut lent.image),
+        5 => resize(rng, &mut lent.image),
+        _ => resize(rng, &mut lent.journal),
     }
 }
 

@@ -14,6 +14,7 @@ pub struct Asked {
     row: Guarded<i64>,
     bytes: Guarded<u8>,
     image: Guarded<i64>,
+    journal: Guarded<i64>,
     /// The model's copy.
     due: Lent,
 }
@@ -37,6 +38,11 @@ impl Asked {
         }
     }
 
+    /// What the last call left.
+    pub fn left(&self) -> &Lent {
+        &self.due
+    }
+
     fn put(&mut self, lent: &Lent) {
         self.cells.put(&lent.cells);
         self.queue.put(&lent.queue);
@@ -44,11 +50,12 @@ impl Asked {
         self.row.put(&lent.row);
         self.bytes.put(&lent.bytes);
         self.image.put(&lent.image);
+        self.journal.put(&lent.journal);
     }
 
     fn library(&mut self, trial: &Trial) -> Answer {
         let (null, number) = (trial.null, trial.number);
-        let Self { cells, queue, output, row, bytes, image, .. } = self;
+        let Self { cells, queue, output, row, bytes, image, journal, .. } = self;
         match trial.call {
             Call::Fresh => z33::fresh(cells.lend(null), row.lend(null)).into(),
             Call::Run => {
@@ -61,6 +68,31 @@ impl Asked {
             Call::Load => z33::load(cells.lend(null), image.show(null), number).into(),
             Call::SetRegister => z33::set_register(row.lend(null), number, trial.word).into(),
             Call::Raise => z33::raise(cells.lend(null), row.lend(null), number).into(),
+            Call::FreshJournal => {
+                z33::fresh_journal(cells.lend(null), row.lend(null), journal.lend(null)).into()
+            }
+            Call::RunJournal => {
+                let (cells, queue, output) = (cells.lend(null), queue.lend(null), output.lend(null));
+                z33::run_journal(cells, queue, output, row.lend(null), journal.lend(null), number).into()
+            }
+            Call::DeliverJournal => {
+                z33::deliver_journal(queue.lend(null), row.lend(null), journal.lend(null), bytes.show(null))
+                    .into()
+            }
+            Call::DrainJournal => {
+                z33::drain_journal(output.show(null), row.lend(null), journal.lend(null), bytes.lend(null))
+                    .into()
+            }
+            Call::LoadJournal => {
+                z33::load_journal(cells.lend(null), journal.lend(null), image.show(null), number).into()
+            }
+            Call::SetRegisterJournal => {
+                z33::set_register_journal(row.lend(null), journal.lend(null), number, trial.word).into()
+            }
+            Call::RaiseJournal => {
+                z33::raise_journal(cells.lend(null), row.lend(null), journal.lend(null), number).into()
+            }
+            Call::Back => z33::back(cells.lend(null), row.lend(null), journal.lend(null)).into(),
         }
     }
 
@@ -73,6 +105,7 @@ impl Asked {
             ("row", self.row.content() == due.row, self.row.is_intact()),
             ("bytes", self.bytes.content() == due.bytes, self.bytes.is_intact()),
             ("image", self.image.content() == due.image, self.image.is_intact()),
+            ("journal", self.journal.content() == due.journal, self.journal.is_intact()),
         ];
         buffers.iter().find_map(|(name, same, intact)| match (same, intact) {
             (_, false) => Some(format!("a number outside the {name} was written")),

@@ -19,6 +19,8 @@ use causes::{Cause, KINDS};
 use class::{Seated, Trial};
 use seen::{SEAT_CLASSES, Seen};
 
+pub use draw::stops_after;
+
 const MOST: usize = SEATS_MOST as usize;
 /// Benches that are not refused, for each number of seats.
 const ACCEPTED: usize = 400;

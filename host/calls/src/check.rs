@@ -2,29 +2,31 @@
 
 use draws::rng::Rng;
 use layout::limit::CELLS_MOST;
-use layout::refusal::DAMAGED_CELL;
+use layout::refusal::{DAMAGED_CELL, JOURNAL};
 use layout::stop::BUDGET_SPENT;
 
 use crate::asked::Asked;
 use crate::coverage::{Coverage, all_pairs};
 use crate::faults::{self, Fault};
-use crate::trial::{CALLS, Call, Trial};
-use crate::{accepted, anything, bench, cuts, damaged, exercise, huge, tags};
+use crate::trial::{Answer, CALLS, Call, Lent, Trial};
+use crate::{accepted, anything, bench, cuts, damaged, exercise, huge, journal, tags};
 
 /// How often each fault, and each pair of faults, is put into another accepted trial.
 const EACH_FAULT: usize = 6;
 const EACH_PAIR: usize = 12;
-/// For each of the eight calls.
+/// For each of the sixteen calls.
 const ACCEPTED: usize = 25_000;
 const ANYTHING: usize = 25_000;
 /// Runs that end by themselves, each on budgets that 32 bits do not hold.
 const LONG: usize = 3_000;
+const LONG_CALLS: [Call; 2] = [Call::Run, Call::RunJournal];
 const LONG_BUDGETS: [u64; 4] = [1 << 32, (1 << 32) + 1, 1 << 63, u64::MAX];
 
 /// Lines that say what was looked at, or the first difference.
 pub fn check(seed: u64) -> Result<Vec<String>, String> {
     damaged::verify()?;
-    let mut check = Check { rng: Rng::new(seed), asked: Asked::default(), coverage: Coverage::default() };
+    let mut check =
+        Check { rng: Rng::new(seed), asked: Asked::default(), coverage: Coverage::default(), runs_beside: 0 };
     for call in CALLS {
         check.each_fault(call)?;
         check.each_pair(call)?;
@@ -32,17 +34,25 @@ pub fn check(seed: u64) -> Result<Vec<String>, String> {
         check.without_fault(call)?;
         check.anything(call)?;
     }
-    check.long_budgets()?;
+    for call in LONG_CALLS {
+        check.long_budgets(call)?;
+    }
     let cuts = cuts::check(seed)?;
     let tags = tags::check()?;
     let huge = huge::check()?;
     let exercise = exercise::check(seed)?;
     let benches = bench::check(seed)?;
+    let journals = journal::check(seed)?;
     let mut lines = vec![
         check.coverage.complete()?,
+        format!(
+            "{} runs with a journal answer and leave what the same runs do without it",
+            check.runs_beside
+        ),
         format!("{tags} cells, each read, loaded and in register a: sound or refused as document 01 has it"),
         format!(
-            "{LONG} runs that end by themselves, each on {} budgets of 2^32 to 2^64 - 1",
+            "{} runs that end by themselves, half of them with a journal, each on {} budgets of 2^32 to 2^64 - 1",
+            LONG * LONG_CALLS.len(),
             LONG_BUDGETS.len()
         ),
         cuts,
@@ -50,6 +60,7 @@ pub fn check(seed: u64) -> Result<Vec<String>, String> {
         exercise,
     ];
     lines.extend(benches);
+    lines.push(journals);
     Ok(lines)
 }
 
@@ -57,6 +68,8 @@ struct Check {
     rng: Rng,
     asked: Asked,
     coverage: Coverage,
+    /// Runs with a journal, made without it too.
+    runs_beside: u64,
 }
 
 impl Check {
@@ -68,7 +81,30 @@ impl Check {
             return Err(format!("{} with {faults:?}: {answer:?}, due {due:?}", trial.told()));
         }
         self.coverage.count(&trial, &answer);
+        self.as_without(&trial, &answer)?;
+        if let [fault] = faults {
+            self.coverage.count_cause(trial.call, *fault);
+        }
         Ok(())
+    }
+
+    /// A run with a journal that is one answers and leaves what the same run does without it.
+    fn as_without(&mut self, trial: &Trial, answer: &Answer) -> Result<(), String> {
+        if trial.call != Call::RunJournal || answer.refusal == JOURNAL {
+            return Ok(());
+        }
+        let left = Lent { journal: Vec::new(), ..self.asked.left().clone() };
+        let lent = Lent { journal: Vec::new(), ..trial.lent.clone() };
+        let due = self.asked.check(&Trial { call: Call::Run, lent, ..*trial })?;
+        self.runs_beside += 1;
+        if *answer == due && left == *self.asked.left() {
+            Ok(())
+        } else {
+            Err(format!(
+                "{}: {answer:?}, without the journal {due:?}, or something is left otherwise",
+                trial.told()
+            ))
+        }
     }
 
     fn each_fault(&mut self, call: Call) -> Result<(), String> {
@@ -98,7 +134,10 @@ impl Check {
         loop {
             let trial = accepted::draw(&mut self.rng, call);
             let faults = faults::of(&mut self.rng, &trial);
-            if let (Some(one), Some(two)) = (self.pick(&faults, one), self.pick(&faults, two)) {
+            let both = (self.pick(&faults, one), self.pick(&faults, two));
+            if let (Some(one), Some(two)) = both
+                && !one.clashes(two)
+            {
                 return (trial, [one, two]);
             }
         }
@@ -134,10 +173,10 @@ impl Check {
         Ok(())
     }
 
-    fn long_budgets(&mut self) -> Result<(), String> {
+    fn long_budgets(&mut self, call: Call) -> Result<(), String> {
         let mut ended = 0;
         while ended < LONG {
-            let mut trial = accepted::draw(&mut self.rng, Call::Run);
+            let mut trial = accepted::draw(&mut self.rng, call);
             let answer = self.asked.check(&trial)?;
             if answer.rest[0] as u64 == BUDGET_SPENT {
                 continue;
@@ -158,6 +197,7 @@ impl Check {
             let trial = anything::draw(&mut self.rng, call);
             let answer = self.asked.check(&trial)?;
             self.coverage.count(&trial, &answer);
+            self.as_without(&trial, &answer)?;
         }
         Ok(())
     }

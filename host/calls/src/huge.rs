@@ -6,7 +6,7 @@ use std::ptr::null_mut;
 use std::slice;
 
 use layout::limit::CELLS_LEAST;
-use layout::{ROW, at, cell};
+use layout::{ROW, at, cell, journal};
 use z33::Seat;
 
 const PAST: usize = 1 << 32;
@@ -67,6 +67,7 @@ pub fn check() -> Result<String, String> {
     };
     let mut answers = refused(&mut zeros);
     answers.extend(benches(&mut zeros));
+    answers.extend(journals(&mut zeros));
     answers.push(("drain, buffer", drained(&mut writable), (0, 0)));
     let count = answers.len();
     match answers.into_iter().find(|(_, answer, due)| answer != due) {
@@ -128,6 +129,50 @@ fn benches(zeros: &mut Zeros) -> Vec<Looked> {
         ("bench, outputs", one(list, cells, queue, zeros.bytes(PAST + 4), row), (3, 0)),
         ("bench, rows", one(list, cells, queue, &mut [], zeros.numbers(PAST + ROW)), (4, 0)),
     ]
+}
+
+/// A journal whose length's low 32 bits are those of one record; and of one that is, the other lengths.
+fn journals(zeros: &mut Zeros) -> Vec<Looked> {
+    const ONE: usize = journal::length(1);
+    let (mut cells, mut row, mut kept) = (vec![0; cell::LENGTH * CELLS_LEAST], [0; ROW], [0; ONE]);
+    let (cells, row, kept) = (&mut cells[..], &mut row[..], &mut kept[..]);
+    let (mut queue, output) = ([0; 4], [0; 4]);
+    let queue = &mut queue[..];
+    let done = |answer: z33::Done| (answer.refusal, answer.place);
+    let ran = |answer: z33::Ran| (answer.refusal, answer.place);
+    let mut looked = vec![
+        (
+            "fresh, journal",
+            done(z33::fresh_journal(&mut *cells, &mut *row, zeros.numbers(PAST + ONE))),
+            (20, 0),
+        ),
+        (
+            "run, journal",
+            ran(z33::run_journal(&mut *cells, &mut *queue, None, &mut *row, zeros.numbers(PAST + ONE), 1)),
+            (20, 0),
+        ),
+        (
+            "deliver, journal",
+            done(z33::deliver_journal(&mut *queue, &mut *row, zeros.numbers(PAST + ONE), None)),
+            (20, 0),
+        ),
+        ("load, journal", done(z33::load_journal(&mut *cells, zeros.numbers(PAST + ONE), None, 0)), (20, 0)),
+        (
+            "set register, journal",
+            done(z33::set_register_journal(&mut *row, zeros.numbers(PAST + ONE), 0, 0)),
+            (20, 0),
+        ),
+        ("back, journal", done(z33::back(&mut *cells, &mut *row, zeros.numbers(PAST + ONE))), (20, 0)),
+    ];
+    let drained = z33::drain_journal(&output[..], &mut *row, zeros.numbers(PAST + ONE), None);
+    looked.push(("drain, journal", (drained.refusal, drained.place), (20, 0)));
+    let raised = z33::raise_journal(&mut *cells, &mut *row, zeros.numbers(PAST + ONE), 0);
+    looked.push(("raise, journal", (raised.refusal, raised.place), (20, 0)));
+    looked.extend([
+        ("back, cells", done(z33::back(zeros.numbers(CELLS), &mut *row, &mut *kept)), (1, 0)),
+        ("back, row", done(z33::back(&mut *cells, zeros.numbers(PAST + ROW), &mut *kept)), (4, 0)),
+    ]);
+    looked
 }
 
 /// A drain buffer may be as long as it likes.

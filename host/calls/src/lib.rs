@@ -13,6 +13,7 @@ mod exercise;
 mod faults;
 mod guarded;
 mod huge;
+mod journal;
 mod model;
 mod refusals;
 mod tags;

@@ -5,6 +5,7 @@
 use layout::limit::{CELLS_MOST, OUTPUT_MOST, QUEUE_MOST};
 use layout::{Row, at, cell, refusal};
 
+use crate::journal::ring;
 use crate::refusals::{self as test, Tested};
 use crate::trial::{Answer, Buffer, Call, Lent, REST, Trial};
 
@@ -17,8 +18,24 @@ pub fn answer(trial: &Trial, lent: &mut Lent) -> Answer {
 }
 
 fn tested(trial: &Trial, lent: &Lent) -> Tested {
-    let number = trial.number;
+    own_tested(trial, lent)?;
     match trial.call {
+        // "fresh tests its length only"
+        Call::FreshJournal => test::journal_length(lent.journal.len()),
+        Call::Back => {
+            test::journal(&lent.journal)?;
+            test::kept_record(&lent.journal, lent.cells.len() / cell::LENGTH)?;
+            test::kept(&lent.journal)
+        }
+        call if call.is_lent(Buffer::Journal) => test::journal(&lent.journal),
+        _ => Ok(()),
+    }
+}
+
+/// By what the call tests without a journal.
+fn own_tested(trial: &Trial, lent: &Lent) -> Tested {
+    let number = trial.number;
+    match trial.call.own() {
         Call::Fresh => {
             test::cells(lent.cells.len())?;
             test::row_length(lent.row.len())
@@ -54,6 +71,11 @@ fn tested(trial: &Trial, lent: &Lent) -> Tested {
             test::every_cell(&lent.cells)?;
             test::code(number)
         }
+        // "checks cells as load does"
+        _ => {
+            test::cells(lent.cells.len())?;
+            row(trial.call, lent)
+        }
     }
 }
 
@@ -76,12 +98,23 @@ fn row(call: Call, lent: &Lent) -> Tested {
 
 /// What follows refusal and place in the answer.
 fn performed(trial: &Trial, lent: &mut Lent) -> [i64; REST] {
-    let Lent { cells, queue, output, row, bytes, image } = lent;
+    let Lent { cells, queue, output, row, bytes, image, journal } = lent;
     let number = trial.number;
     match trial.call {
+        Call::RunJournal | Call::Back => {}
+        Call::FreshJournal => ring::make(journal),
+        call if call.is_lent(Buffer::Journal) => ring::empty(journal),
+        _ => {}
+    }
+    match trial.call.own() {
         Call::Fresh => fresh(cells, row),
         Call::Run => {
-            let ran = plain::run(cells, queue, output, tested_row(row), number);
+            let row = tested_row(row);
+            let ran = if trial.call == Call::RunJournal {
+                plain::run_kept(cells, queue, output, row, number, |begun| ring::keep(journal, &begun))
+            } else {
+                plain::run(cells, queue, output, row, number)
+            };
             [ran.stop, ran.detail, ran.steps, ran.empty].map(|number| number as i64)
         }
         Call::Deliver => done(plain::deliver(queue, tested_row(row), bytes) == refusal::NONE),
@@ -99,6 +132,10 @@ fn performed(trial: &Trial, lent: &mut Lent) -> [i64; REST] {
         Call::Raise => {
             let raised = plain::raise(cells, tested_row(row), number).expect(TESTED);
             [raised.stop as i64, raised.detail as i64, 0, 0]
+        }
+        _ => {
+            ring::go_back(cells, row, journal);
+            [0; REST]
         }
     }
 }

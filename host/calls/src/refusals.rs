@@ -3,9 +3,12 @@
 use layout::limit::{
     ADDRESS_LAST, CELLS_LEAST, CELLS_MOST, CYCLES_MOST, OUTPUT_MOST, QUEUE_LEAST, QUEUE_MOST,
 };
+use layout::limit::{RECORDS_LEAST, RECORDS_MOST};
 use layout::row::from_1;
-use layout::{ROW, at, cell, code, refusal, reg, row};
+use layout::{ROW, at, cell, code, journal, refusal, reg, row};
 use plain::sound;
+
+use crate::journal::ring;
 
 /// A refusal's number and place where a test fails.
 pub type Tested = Result<(), (u64, u64)>;
@@ -113,6 +116,41 @@ pub fn register(number: u64, word: i64) -> Tested {
 /// "The raised code is not 0 to 5."
 pub fn code(code: u64) -> Tested {
     test(code < code::CODES, refusal::CODE, 0)
+}
+
+/// "the journal is no whole number of records, 1 to 4,096, after its start and count"
+pub fn journal_length(length: usize) -> Tested {
+    let lengths = (RECORDS_LEAST..=RECORDS_MOST).map(journal::length);
+    test(lengths.into_iter().any(|whole| whole == length), refusal::JOURNAL, 0)
+}
+
+/// "start is no record's place, count is not 0 to the records"
+pub fn journal(numbers: &[i64]) -> Tested {
+    journal_length(numbers.len())?;
+    let records = ring::records(numbers) as i64;
+    test((0..records).contains(&numbers[journal::START]), refusal::JOURNAL, 0)?;
+    test((0..=records).contains(&numbers[journal::COUNT]), refusal::JOURNAL, 0)
+}
+
+/// "or the record gone back to holds not 0 to 4 cells, or a row or cell that 4, 5 or 8 would refuse", where there is one.
+pub fn kept_record(numbers: &[i64], cells: usize) -> Tested {
+    if kept(numbers).is_err() {
+        return Ok(());
+    }
+    let record = ring::newest(numbers);
+    let refused = |_| (refusal::JOURNAL, 0);
+    row(&record[..ROW], QUEUE_MOST, OUTPUT_MOST, cells).map_err(refused)?;
+    test((0..=journal::WRITES_MOST as i64).contains(&record[journal::CELLS]), refusal::JOURNAL, 0)?;
+    for i in 0..record[journal::CELLS] as usize {
+        let [at, tag, first, second] = ring::written(record, i);
+        test((0..cells as i64).contains(&at) && sound([tag, first, second]), refusal::JOURNAL, 0)?;
+    }
+    Ok(())
+}
+
+/// "nothing kept to go back to"
+pub fn kept(numbers: &[i64]) -> Tested {
+    test(numbers[journal::COUNT] > 0, refusal::NOTHING_KEPT, 0)
 }
 
 /// The address, if it is of one of the cells.

@@ -1,6 +1,6 @@
 //! A call with everything that is lent to it, and its answer.
 
-use layout::{ROW, refusal};
+use layout::{ROW, journal, refusal};
 
 #[derive(Clone, Copy, Debug, PartialEq, Eq, PartialOrd, Ord)]
 pub enum Call {
@@ -12,11 +12,39 @@ pub enum Call {
     Load,
     SetRegister,
     Raise,
+    FreshJournal,
+    RunJournal,
+    DeliverJournal,
+    DrainJournal,
+    LoadJournal,
+    SetRegisterJournal,
+    RaiseJournal,
+    Back,
 }
 
-use Call::{Deliver, Drain, Fresh, Load, Raise, ReadCell, Run, SetRegister};
+use Call::{
+    Back, Deliver, DeliverJournal, Drain, DrainJournal, Fresh, FreshJournal, Load, LoadJournal, Raise,
+    RaiseJournal, ReadCell, Run, RunJournal, SetRegister, SetRegisterJournal,
+};
 
-pub const CALLS: [Call; 8] = [Fresh, Run, Deliver, Drain, ReadCell, Load, SetRegister, Raise];
+pub const CALLS: [Call; 16] = [
+    Fresh,
+    Run,
+    Deliver,
+    Drain,
+    ReadCell,
+    Load,
+    SetRegister,
+    Raise,
+    FreshJournal,
+    RunJournal,
+    DeliverJournal,
+    DrainJournal,
+    LoadJournal,
+    SetRegisterJournal,
+    RaiseJournal,
+    Back,
+];
 
 #[derive(Clone, Copy, Debug, PartialEq, Eq, PartialOrd, Ord)]
 pub enum Buffer {
@@ -27,19 +55,41 @@ pub enum Buffer {
     /// Bytes to deliver, or the drain buffer.
     Bytes,
     Image,
+    Journal,
 }
 
 impl Call {
+    /// The same call without a journal; going back has none.
+    pub fn own(self) -> Self {
+        match self {
+            FreshJournal => Fresh,
+            RunJournal => Run,
+            DeliverJournal => Deliver,
+            DrainJournal => Drain,
+            LoadJournal => Load,
+            SetRegisterJournal => SetRegister,
+            RaiseJournal => Raise,
+            call => call,
+        }
+    }
+
     /// "Calls, with what each is lent", and what else it is given.
     pub fn lends(self) -> &'static [Buffer] {
+        use Buffer::{Bytes, Cells, Image, Journal, Output, Queue, Row};
         match self {
-            Fresh | Raise => &[Buffer::Cells, Buffer::Row],
-            Run => &[Buffer::Cells, Buffer::Queue, Buffer::Output, Buffer::Row],
-            Deliver => &[Buffer::Queue, Buffer::Row, Buffer::Bytes],
-            Drain => &[Buffer::Output, Buffer::Row, Buffer::Bytes],
-            ReadCell => &[Buffer::Cells],
-            Load => &[Buffer::Cells, Buffer::Image],
-            SetRegister => &[Buffer::Row],
+            Fresh | Raise => &[Cells, Row],
+            Run => &[Cells, Queue, Output, Row],
+            Deliver => &[Queue, Row, Bytes],
+            Drain => &[Output, Row, Bytes],
+            ReadCell => &[Cells],
+            Load => &[Cells, Image],
+            SetRegister => &[Row],
+            FreshJournal | RaiseJournal | Back => &[Cells, Row, Journal],
+            RunJournal => &[Cells, Queue, Output, Row, Journal],
+            DeliverJournal => &[Queue, Row, Journal, Bytes],
+            DrainJournal => &[Output, Row, Journal, Bytes],
+            LoadJournal => &[Cells, Journal, Image],
+            SetRegisterJournal => &[Row, Journal],
         }
     }
 
@@ -48,17 +98,21 @@ impl Call {
     }
 
     /// The refusals of "Turned back" that it can give.
-    pub fn refusals(self) -> &'static [u64] {
-        match self {
-            Fresh => &[refusal::CELLS, refusal::ROW],
-            Run => &[refusal::CELLS, refusal::QUEUE, refusal::OUTPUT, refusal::ROW, refusal::DAMAGED_CELL],
-            Deliver => &[refusal::QUEUE, refusal::ROW, refusal::DELIVERY],
-            Drain => &[refusal::OUTPUT, refusal::ROW, refusal::DRAIN],
-            ReadCell => &[refusal::CELLS, refusal::DAMAGED_CELL, refusal::ADDRESS],
-            Load => &[refusal::CELLS, refusal::ADDRESS, refusal::IMAGE],
-            SetRegister => &[refusal::ROW, refusal::REGISTER],
-            Raise => &[refusal::CELLS, refusal::ROW, refusal::DAMAGED_CELL, refusal::CODE],
-        }
+    pub fn refusals(self) -> Vec<u64> {
+        let own = match self.own() {
+            Fresh => vec![refusal::CELLS, refusal::ROW],
+            Run => vec![refusal::CELLS, refusal::QUEUE, refusal::OUTPUT, refusal::ROW, refusal::DAMAGED_CELL],
+            Deliver => vec![refusal::QUEUE, refusal::ROW, refusal::DELIVERY],
+            Drain => vec![refusal::OUTPUT, refusal::ROW, refusal::DRAIN],
+            ReadCell => vec![refusal::CELLS, refusal::DAMAGED_CELL, refusal::ADDRESS],
+            Load => vec![refusal::CELLS, refusal::ADDRESS, refusal::IMAGE],
+            SetRegister => vec![refusal::ROW, refusal::REGISTER],
+            Raise => vec![refusal::CELLS, refusal::ROW, refusal::DAMAGED_CELL, refusal::CODE],
+            _ => vec![refusal::CELLS, refusal::ROW],
+        };
+        let journal = self.is_lent(Buffer::Journal).then_some(refusal::JOURNAL);
+        let back = (self == Back).then_some(refusal::NOTHING_KEPT);
+        own.into_iter().chain(journal).chain(back).collect()
     }
 }
 
@@ -71,6 +125,7 @@ pub struct Lent {
     pub row: Vec<i64>,
     pub bytes: Vec<u8>,
     pub image: Vec<i64>,
+    pub journal: Vec<i64>,
 }
 
 #[derive(Clone)]
@@ -94,6 +149,7 @@ impl Trial {
             Buffer::Row => self.lent.row.len(),
             Buffer::Bytes => self.lent.bytes.len(),
             Buffer::Image => self.lent.image.len(),
+            Buffer::Journal => self.lent.journal.len(),
         }
     }
 
@@ -103,8 +159,9 @@ impl Trial {
             self.call.lends().iter().map(|buffer| format!("{buffer:?} {}", self.length(*buffer))).collect();
         let (call, number, word, row) = (self.call, self.number, self.word, &self.lent.row);
         let row = &row[..row.len().min(ROW + 1)];
+        let head = &self.lent.journal[..self.lent.journal.len().min(journal::RING)];
         format!(
-            "{call:?} with number {number}, word {word}, lengths {}, null {}, row {row:?}",
+            "{call:?} with number {number}, word {word}, lengths {}, null {}, row {row:?}, journal {head:?}",
             lengths.join(", "),
             self.null
         )

@@ -22,6 +22,9 @@ pub const EMPTY_CELL: u64 = 16;
 pub const TEXT_ROOM: u64 = 17;
 /// The bench's, before 1.
 pub const SEATS: u64 = 19;
+/// No journal, or its newest record is none that can be gone back to.
+pub const JOURNAL: u64 = 20;
+pub const NOTHING_KEPT: u64 = 21;
 /// The runner's, and of old files the listings tool's. Place: the line.
 pub const LINE: u64 = 12;
 /// The runner's. Place: the line.

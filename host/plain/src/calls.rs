@@ -5,7 +5,7 @@ use layout::{Row, at, code, memory, refusal, reg, row, stop};
 
 use crate::cell::address_in;
 use crate::console::Console;
-use crate::machine::{MOST_CYCLES, Machine, State, enter};
+use crate::machine::{Held, MOST_CYCLES, Machine, State, enter};
 use crate::timer::Timer;
 
 pub struct Ran {
@@ -25,7 +25,7 @@ pub struct Raised {
 pub fn run(cells: &mut [i64], queue: &mut [u8], output: &mut [u8], row: &mut Row, budget: u64) -> Ran {
     let console = console_of(queue, output, row);
     let (timer, state) = (timer_of(row), state_of(row));
-    let mut machine = Machine { cells, console, timer, state, empty: 0, closed: 0 };
+    let mut machine = Machine { cells, console, timer, state, empty: 0, closed: 0, held: None };
     let mut ran = Ran { stop: stop::BUDGET_SPENT, detail: 0, steps: 0, empty: 0 };
     while ran.steps < budget {
         match machine.step() {
@@ -40,6 +40,47 @@ pub fn run(cells: &mut [i64], queue: &mut [u8], output: &mut [u8], row: &mut Row
     put_state(row, &machine.state);
     put_console(row, &machine.console);
     put_timer(row, &machine.timer);
+    ran
+}
+
+/// A step that was begun: the row before it, and what the cells that it wrote held, in order of writing.
+pub struct Begun {
+    pub row: Row,
+    pub held: Vec<Held>,
+}
+
+/// A run that keeps "for every step begun, the row before and what the cells it wrote held" (document 02, Card 11), the first one first.
+pub fn run_kept(
+    cells: &mut [i64],
+    queue: &mut [u8],
+    output: &mut [u8],
+    row: &mut Row,
+    budget: u64,
+    mut keep: impl FnMut(Begun),
+) -> Ran {
+    let mut ran = Ran { stop: stop::BUDGET_SPENT, detail: 0, steps: 0, empty: 0 };
+    while ran.steps < budget && ran.stop == stop::BUDGET_SPENT {
+        let before = *row;
+        let console = console_of(queue, output, row);
+        let (timer, state) = (timer_of(row), state_of(row));
+        let mut machine =
+            Machine { cells, console, timer, state, empty: 0, closed: 0, held: Some(Vec::new()) };
+        match machine.step() {
+            Ok(empty) => {
+                ran.steps += 1;
+                ran.empty = ran.empty.saturating_add(empty);
+            }
+            Err(stop) => (ran.stop, ran.detail) = stop,
+        }
+        let held = machine.held.take().unwrap_or_default();
+        put_state(row, &machine.state);
+        put_console(row, &machine.console);
+        put_timer(row, &machine.timer);
+        // "stops 6 and 7 begin no step"
+        if !matches!(ran.stop, stop::OUTPUT_FULL | stop::CYCLES_FULL) {
+            keep(Begun { row: before, held });
+        }
+    }
     ran
 }
 

@@ -9,5 +9,6 @@ mod instructions;
 mod machine;
 mod timer;
 
-pub use calls::{Raised, Ran, deliver, drain, raise, run, set_register};
+pub use calls::{Begun, Raised, Ran, deliver, drain, raise, run, run_kept, set_register};
 pub use cell::{cost, sound};
+pub use machine::Held;

@@ -4,7 +4,7 @@ use layout::Cell;
 use layout::cell::{self, EMPTY, is_instruction, word, word_in};
 use layout::code::{HARDWARE_INTERRUPT, INVALID_INSTRUCTION, INVALID_MEMORY_ACCESS, PRIVILEGED_INSTRUCTION};
 use layout::limit::CYCLES_MOST;
-use layout::memory::{INTERRUPT_EXCEPTION, INTERRUPT_HANDLER, INTERRUPT_PC_SAVE, INTERRUPT_SR_SAVE};
+use layout::memory::{INTERRUPT_EXCEPTION, INTERRUPT_HANDLER, INTERRUPT_PC_SAVE, INTERRUPT_SR_SAVE, SAVES};
 use layout::sr::{INTERRUPT_ENABLE, SUPERVISOR};
 use layout::{mode, reg, stop};
 
@@ -37,6 +37,15 @@ pub struct Machine<'a> {
     pub empty: u64,
     /// This step's instruction may not write below here.
     pub closed: u32,
+    /// What the cells that this step wrote held, where that is asked for.
+    pub held: Option<Vec<Held>>,
+}
+
+/// A cell that was written: its address, and what it held just before.
+#[derive(Clone, Copy, Debug, PartialEq, Eq)]
+pub struct Held {
+    pub address: u32,
+    pub cell: Cell,
 }
 
 #[derive(Clone, Copy)]
@@ -129,8 +138,12 @@ impl Machine<'_> {
     }
 
     pub fn enter(&mut self, code: u64) -> Result<(), Stop> {
+        let saves = SAVES.map(|address| Held { address, cell: cell::get(self.cells, address as usize) });
         if !enter(self.cells, &mut self.state, code) {
             return Err((stop::NO_HANDLER, code));
+        }
+        if let Some(held) = &mut self.held {
+            held.extend(saves);
         }
         self.state.cycles += 1;
         Ok(())
@@ -151,8 +164,14 @@ impl Machine<'_> {
 
     /// A store outside the cells is code 5, and so is one below the fence in a step begun with S clear (document 02, Card 5).
     pub fn write(&mut self, address: u32, cell: Cell) -> Result<(), Fault> {
-        let written = address >= self.closed && write(self.cells, address, cell);
-        if written { Ok(()) } else { Err(Fault::Code(INVALID_MEMORY_ACCESS)) }
+        let Some(before) = read(self.cells, address).filter(|_| address >= self.closed) else {
+            return Err(Fault::Code(INVALID_MEMORY_ACCESS));
+        };
+        write(self.cells, address, cell);
+        if let Some(held) = &mut self.held {
+            held.push(Held { address, cell: before });
+        }
+        Ok(())
     }
 
     pub fn get(&self, reg: i64) -> Cell {
@@ -245,13 +264,7 @@ fn read(cells: &[i64], address: u32) -> Option<Cell> {
     Some([*cells.get(at)?, *cells.get(at + 1)?, *cells.get(at + 2)?])
 }
 
-fn write(cells: &mut [i64], address: u32, cell: Cell) -> bool {
-    let at = cell::LENGTH * address as usize;
-    match cells.get_mut(at..at + cell::LENGTH) {
-        Some(place) => {
-            place.copy_from_slice(&cell);
-            true
-        }
-        None => false,
-    }
+/// At an address that is inside.
+fn write(cells: &mut [i64], address: u32, cell: Cell) {
+    cell::put(cells, address as usize, cell);
 }

@@ -1,7 +1,9 @@
 //! The functions of include/z33.h, in its order. Each buffer is a pointer and a count of elements, and the pointer may be null where the
 //! count is 0; buffers of one call do not overlap.
 
-use crate::answers::{z33_benched, z33_cell, z33_counted, z33_done, z33_drained, z33_raised, z33_ran, z33_seat};
+use crate::answers::{
+    z33_benched, z33_cell, z33_counted, z33_done, z33_drained, z33_raised, z33_ran, z33_seat,
+};
 
 unsafe extern "C" {
     /// Makes all cells empty and the row 0, whatever they held.
@@ -97,4 +99,95 @@ unsafe extern "C" {
 
     /// The record of one that was stored in 32 bits.
     pub fn z33_take_over(limit: u32, used: u32, stop: u32) -> z33_seat;
+
+    /// As `z33_fresh`; the journal keeps nothing, and its start is 0.
+    pub fn z33_fresh_journal(
+        cells: *mut i64,
+        cells_len: usize,
+        row: *mut i64,
+        row_len: usize,
+        journal: *mut i64,
+        journal_len: usize,
+    ) -> z33_done;
+
+    /// As `z33_run`; the journal keeps a record of each step that is begun.
+    pub fn z33_run_journal(
+        cells: *mut i64,
+        cells_len: usize,
+        queue: *mut u8,
+        queue_len: usize,
+        output: *mut u8,
+        output_len: usize,
+        row: *mut i64,
+        row_len: usize,
+        journal: *mut i64,
+        journal_len: usize,
+        budget: u64,
+    ) -> z33_ran;
+
+    /// As `z33_deliver`; the journal keeps nothing.
+    pub fn z33_deliver_journal(
+        queue: *mut u8,
+        queue_len: usize,
+        row: *mut i64,
+        row_len: usize,
+        journal: *mut i64,
+        journal_len: usize,
+        bytes: *const u8,
+        bytes_len: usize,
+    ) -> z33_done;
+
+    /// As `z33_drain`; the journal keeps nothing.
+    pub fn z33_drain_journal(
+        output: *const u8,
+        output_len: usize,
+        row: *mut i64,
+        row_len: usize,
+        journal: *mut i64,
+        journal_len: usize,
+        buffer: *mut u8,
+        buffer_len: usize,
+    ) -> z33_drained;
+
+    /// As `z33_load`; the journal keeps nothing.
+    pub fn z33_load_journal(
+        cells: *mut i64,
+        cells_len: usize,
+        journal: *mut i64,
+        journal_len: usize,
+        image: *const i64,
+        image_len: usize,
+        start: u64,
+    ) -> z33_done;
+
+    /// As `z33_set_register`; the journal keeps nothing.
+    pub fn z33_set_register_journal(
+        row: *mut i64,
+        row_len: usize,
+        journal: *mut i64,
+        journal_len: usize,
+        reg: u64,
+        word: i64,
+    ) -> z33_done;
+
+    /// As `z33_raise`; the journal keeps nothing, where it stops too.
+    pub fn z33_raise_journal(
+        cells: *mut i64,
+        cells_len: usize,
+        row: *mut i64,
+        row_len: usize,
+        journal: *mut i64,
+        journal_len: usize,
+        code: u64,
+    ) -> z33_raised;
+
+    /// Goes back over the journal's newest record.
+    pub fn z33_back(
+        cells: *mut i64,
+        cells_len: usize,
+        row: *mut i64,
+        row_len: usize,
+        journal: *mut i64,
+        journal_len: usize,
+    ) -> z33_done;
 }

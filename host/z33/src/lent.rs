@@ -1,8 +1,8 @@
 //! The calls over buffers that the caller owns: slices, or anything that lends one, as `&mut Vec` does.
 //!
 //! Cells are three numbers each (tag, first, second). The row is 20 numbers: a and b (three each), pc, sp, sr, cycles, the console's
-//! enable, flag and pending, queue start, queue count, output count, the fence, and the timer's interval, remaining and mark. Any length and
-//! content is answered.
+//! enable, flag and pending, queue start, queue count, output count, the fence, and the timer's interval, remaining and mark. A journal is
+//! start, count and 1 to 4,096 records of 37 numbers; [`Journal`](crate::Journal) owns one. Any length and content is answered.
 //!
 //! ```
 //! let (mut cells, mut row) = (vec![0; 3 * 256], vec![0; z33::ROW_LENGTH]);
@@ -82,7 +82,8 @@ pub fn load(cells: &mut [i64], image: &[i64], start: u64) -> Result<(), Refusal>
 
 /// Makes cells of a program written as text, one a line, at the front of the image, and tells how many those were.
 pub fn assemble(text: &[u8], image: &mut [i64]) -> Result<u64, Refusal> {
-    let counted = unsafe { z33_sys::z33_assemble(text.as_ptr(), text.len(), image.as_mut_ptr(), image.len()) };
+    let counted =
+        unsafe { z33_sys::z33_assemble(text.as_ptr(), text.len(), image.as_mut_ptr(), image.len()) };
     Refusal::check(counted.refusal, counted.place)?;
     Ok(counted.count)
 }
@@ -91,7 +92,8 @@ pub fn assemble(text: &[u8], image: &mut [i64]) -> Result<u64, Refusal> {
 /// cell is written `.word 0`, which reads back as word 0: only where that loss is allowed.
 pub fn list(image: &[i64], text: &mut [u8], allow_empty: bool) -> Result<usize, Refusal> {
     let (text, text_len) = (text.as_mut_ptr(), text.len());
-    let counted = unsafe { z33_sys::z33_list(image.as_ptr(), image.len(), text, text_len, allow_empty.into()) };
+    let counted =
+        unsafe { z33_sys::z33_list(image.as_ptr(), image.len(), text, text_len, allow_empty.into()) };
     Refusal::check(counted.refusal, counted.place)?;
     Ok(counted.count as usize)
 }
@@ -152,4 +154,146 @@ pub fn bench(
         Ok(()) => Ok(benched.left),
         Err(refusal) => Err(SeatRefusal { refusal, seat: benched.seat }),
     }
+}
+
+/// [`fresh`], and the journal is one with nothing kept, whatever it held.
+pub fn fresh_journal(cells: &mut [i64], row: &mut [i64], journal: &mut [i64]) -> Result<(), Refusal> {
+    let ((row, row_len), (journal, journal_len)) = (of(row), of(journal));
+    let done = unsafe {
+        z33_sys::z33_fresh_journal(cells.as_mut_ptr(), cells.len(), row, row_len, journal, journal_len)
+    };
+    Refusal::check(done.refusal, done.place)
+}
+
+/// [`run`], and the journal keeps each step that is begun: one that stops too, unless by a full output record or cycle count.
+pub fn run_journal(
+    cells: &mut [i64],
+    queue: &mut [u8],
+    output: &mut [u8],
+    row: &mut [i64],
+    journal: &mut [i64],
+    budget: u64,
+) -> Result<Ran, Refusal> {
+    let ran = unsafe {
+        z33_sys::z33_run_journal(
+            cells.as_mut_ptr(),
+            cells.len(),
+            queue.as_mut_ptr(),
+            queue.len(),
+            output.as_mut_ptr(),
+            output.len(),
+            row.as_mut_ptr(),
+            row.len(),
+            journal.as_mut_ptr(),
+            journal.len(),
+            budget,
+        )
+    };
+    Refusal::check(ran.refusal, ran.place)?;
+    Ok(Ran { stop: Stop::of(ran.stop, ran.detail), steps: ran.steps, empty: ran.empty })
+}
+
+/// [`deliver`], and the journal is emptied.
+pub fn deliver_journal(
+    queue: &mut [u8],
+    row: &mut [i64],
+    journal: &mut [i64],
+    bytes: &[u8],
+) -> Result<(), Refusal> {
+    let ((queue, queue_len), (row, row_len), (journal, journal_len)) = (of(queue), of(row), of(journal));
+    let done = unsafe {
+        z33_sys::z33_deliver_journal(
+            queue,
+            queue_len,
+            row,
+            row_len,
+            journal,
+            journal_len,
+            bytes.as_ptr(),
+            bytes.len(),
+        )
+    };
+    Refusal::check(done.refusal, done.place)
+}
+
+/// [`drain`], and the journal is emptied.
+pub fn drain_journal(
+    output: &[u8],
+    row: &mut [i64],
+    journal: &mut [i64],
+    buffer: &mut [u8],
+) -> Result<usize, Refusal> {
+    let ((row, row_len), (journal, journal_len), (buffer, buffer_len)) = (of(row), of(journal), of(buffer));
+    let drained = unsafe {
+        z33_sys::z33_drain_journal(
+            output.as_ptr(),
+            output.len(),
+            row,
+            row_len,
+            journal,
+            journal_len,
+            buffer,
+            buffer_len,
+        )
+    };
+    Refusal::check(drained.refusal, drained.place)?;
+    Ok(drained.count as usize)
+}
+
+/// [`load`], and the journal is emptied.
+pub fn load_journal(
+    cells: &mut [i64],
+    journal: &mut [i64],
+    image: &[i64],
+    start: u64,
+) -> Result<(), Refusal> {
+    let ((cells, cells_len), (journal, journal_len)) = (of(cells), of(journal));
+    let done = unsafe {
+        z33_sys::z33_load_journal(cells, cells_len, journal, journal_len, image.as_ptr(), image.len(), start)
+    };
+    Refusal::check(done.refusal, done.place)
+}
+
+/// [`set_register`], and the journal is emptied. Whoever writes sr into the row empties it too: its count, at place 1 from 0, becomes 0.
+pub fn set_register_journal(
+    row: &mut [i64],
+    journal: &mut [i64],
+    register: Register,
+    word: i64,
+) -> Result<(), Refusal> {
+    let ((row, row_len), (journal, journal_len)) = (of(row), of(journal));
+    let done = unsafe {
+        z33_sys::z33_set_register_journal(row, row_len, journal, journal_len, register.number(), word)
+    };
+    Refusal::check(done.refusal, done.place)
+}
+
+/// [`raise`], and the journal is emptied, where it stops too.
+pub fn raise_journal(
+    cells: &mut [i64],
+    row: &mut [i64],
+    journal: &mut [i64],
+    exception: Exception,
+) -> Result<Option<Stop>, Refusal> {
+    let ((cells, cells_len), (row, row_len), (journal, journal_len)) = (of(cells), of(row), of(journal));
+    let raised = unsafe {
+        z33_sys::z33_raise_journal(cells, cells_len, row, row_len, journal, journal_len, exception.code())
+    };
+    Refusal::check(raised.refusal, raised.place)?;
+    Ok(match raised.stop {
+        stop::ENTERED => None,
+        stop => Some(Stop::of(stop, raised.detail)),
+    })
+}
+
+/// Goes back over the newest record: cells and row are as they were before its step, and the journal's count is one less.
+pub fn back(cells: &mut [i64], row: &mut [i64], journal: &mut [i64]) -> Result<(), Refusal> {
+    let ((cells, cells_len), (row, row_len), (journal, journal_len)) = (of(cells), of(row), of(journal));
+    let done = unsafe { z33_sys::z33_back(cells, cells_len, row, row_len, journal, journal_len) };
+    Refusal::check(done.refusal, done.place)
+}
+
+/// Pointer and length.
+fn of<T>(slice: &mut [T]) -> (*mut T, usize) {
+    (slice.as_mut_ptr(), slice.len())
 }

@@ -1,8 +1,8 @@
 //! The Z33, a processor made for teaching, as it is proved in this repository: up to 10,000 cells, five registers, 33 instructions,
 //! exceptions through cell 200, a serial console and a timer. docs/MANUAL.md describes the machine and the numbers of its instructions.
 //!
-//! [`Machine`] owns its memory and is what most programs want; [`Bench`] runs up to sixteen in turns; [`lent`] has the calls over buffers of
-//! one's own.
+//! [`Machine`] owns its memory and is what most programs want; with a [`Journal`] it can step back; [`Bench`] runs up to sixteen in turns;
+//! [`lent`] has the calls over buffers of one's own.
 //!
 //! ```
 //! use z33::{Cell, Machine, Register, Stop};
@@ -40,6 +40,7 @@
 mod bench;
 mod cell;
 mod exception;
+mod journal;
 pub mod lent;
 mod machine;
 mod refusal;
@@ -51,6 +52,7 @@ mod timer;
 pub use bench::{Bench, Part};
 pub use cell::Cell;
 pub use exception::Exception;
+pub use journal::Journal;
 pub use layout::ROW as ROW_LENGTH;
 pub use layout::sr::{INTERRUPT_ENABLE, NEGATIVE, OVERFLOW, SUPERVISOR, ZERO};
 pub use machine::Machine;

@@ -1,6 +1,6 @@
 use layout::{Row, at, cell, limit, row};
 
-use crate::{Cell, Exception, ROW_LENGTH, Ran, Refusal, Register, Stop, Timer, lent};
+use crate::{Cell, Exception, Journal, ROW_LENGTH, Ran, Refusal, Register, Stop, Timer, lent};
 
 /// More cells, or bytes, than any machine has: enough to be refused.
 const TOO_MANY: usize = limit::OUTPUT_MOST + 1;
@@ -44,8 +44,7 @@ impl Machine {
 
     /// Puts an image over the cells from `start` on.
     pub fn load(&mut self, start: u64, image: &[Cell]) -> Result<(), Refusal> {
-        let numbers: Vec<i64> = image.iter().flat_map(|cell| cell.numbers()).collect();
-        lent::load(&mut self.cells, &numbers, start)
+        lent::load(&mut self.cells, &numbers_of(image), start)
     }
 
     /// Sets a register to a word. sr is written as whoever boots the machine writes it: an instruction of a user program cannot.
@@ -76,6 +75,58 @@ impl Machine {
     pub fn drain(&mut self) -> Vec<u8> {
         let mut bytes = vec![0; self.row[at::OUTPUT_COUNT] as usize];
         lent::drain(&self.output, &mut self.row, &mut bytes).expect("the buffer has the output's count");
+        bytes
+    }
+
+    /// [`run`](Machine::run), and the journal keeps each step that is begun: one that stops too, unless by a full output record or cycle count.
+    pub fn run_journal(&mut self, journal: &mut Journal, budget: u64) -> Result<Ran, Refusal> {
+        let Machine { cells, queue, output, row } = self;
+        lent::run_journal(cells, queue, output, row, &mut journal.numbers, budget)
+    }
+
+    /// Goes back over the last step that the journal keeps: registers, cycles, cells, unread bytes and written bytes are those before it.
+    pub fn step_back(&mut self, journal: &mut Journal) -> Result<(), Refusal> {
+        lent::back(&mut self.cells, &mut self.row, &mut journal.numbers)
+    }
+
+    /// [`load`](Machine::load), and the journal is emptied.
+    pub fn load_journal(&mut self, journal: &mut Journal, start: u64, image: &[Cell]) -> Result<(), Refusal> {
+        lent::load_journal(&mut self.cells, &mut journal.numbers, &numbers_of(image), start)
+    }
+
+    /// [`set_register`](Machine::set_register), and the journal is emptied.
+    pub fn set_register_journal(
+        &mut self,
+        journal: &mut Journal,
+        register: Register,
+        word: i64,
+    ) -> Result<(), Refusal> {
+        if register == Register::Sr {
+            journal.clear();
+            return self.set_register(register, word);
+        }
+        lent::set_register_journal(&mut self.row, &mut journal.numbers, register, word)
+    }
+
+    /// [`deliver`](Machine::deliver), and the journal is emptied.
+    pub fn deliver_journal(&mut self, journal: &mut Journal, bytes: &[u8]) -> Result<(), Refusal> {
+        lent::deliver_journal(&mut self.queue, &mut self.row, &mut journal.numbers, bytes)
+    }
+
+    /// [`raise`](Machine::raise), and the journal is emptied, where it stops too.
+    pub fn raise_journal(
+        &mut self,
+        journal: &mut Journal,
+        exception: Exception,
+    ) -> Result<Option<Stop>, Refusal> {
+        lent::raise_journal(&mut self.cells, &mut self.row, &mut journal.numbers, exception)
+    }
+
+    /// [`drain`](Machine::drain), and the journal is emptied.
+    pub fn drain_journal(&mut self, journal: &mut Journal) -> Vec<u8> {
+        let mut bytes = vec![0; self.row[at::OUTPUT_COUNT] as usize];
+        lent::drain_journal(&self.output, &mut self.row, &mut journal.numbers, &mut bytes)
+            .expect("the buffer has the output's count, and a journal is one");
         bytes
     }
 
@@ -140,4 +191,8 @@ impl Machine {
     pub fn cycles(&self) -> u64 {
         self.row[at::CYCLES] as u64
     }
+}
+
+fn numbers_of(image: &[Cell]) -> Vec<i64> {
+    image.iter().flat_map(|cell| cell.numbers()).collect()
 }

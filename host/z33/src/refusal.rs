@@ -54,10 +54,15 @@ pub enum Refusal {
     TextRoom,
     /// 19: the seats are not 1 to 16, the list has not one record a seat, or a buffer has not as much for each seat.
     Seats,
+    /// 20: the journal has not 1 to 4,096 whole records behind start and count, these are out of their range, or the record to go back to is
+    /// none of a machine with so many cells.
+    Journal,
+    /// 21: the journal has nothing to go back to.
+    NothingKept,
 }
 
 impl Refusal {
-    /// Its number, 1 to 11, 13 to 17 or 19.
+    /// Its number, 1 to 11, 13 to 17 or 19 to 21.
     pub fn number(self) -> u64 {
         match self {
             Refusal::Cells => refusal::CELLS,
@@ -77,6 +82,8 @@ impl Refusal {
             Refusal::EmptyCell => refusal::EMPTY_CELL,
             Refusal::TextRoom => refusal::TEXT_ROOM,
             Refusal::Seats => refusal::SEATS,
+            Refusal::Journal => refusal::JOURNAL,
+            Refusal::NothingKept => refusal::NOTHING_KEPT,
         }
     }
 
@@ -111,7 +118,11 @@ impl Refusal {
             refusal::EMPTY_CELL => Refusal::EmptyCell,
             refusal::TEXT_ROOM => Refusal::TextRoom,
             refusal::SEATS => Refusal::Seats,
-            _ => unreachable!("the library is proved to refuse with 1 to 11, 13 to 17 and 19, and refused with {number}"),
+            refusal::JOURNAL => Refusal::Journal,
+            refusal::NOTHING_KEPT => Refusal::NothingKept,
+            _ => unreachable!(
+                "the library is proved to refuse with 1 to 11, 13 to 17 and 19 to 21, and refused with {number}"
+            ),
         })
     }
 }
@@ -133,12 +144,20 @@ impl fmt::Display for Refusal {
             }
             Refusal::Register => write!(f, "the register cannot be set to that"),
             Refusal::Code => write!(f, "no exception has that code"),
-            Refusal::Text { line } => write!(f, "line {line} of the program cannot be read, or the image has no cell for it"),
-            Refusal::Label { line } => write!(f, "line {line} of the program has a label that is missing, set again or one too many"),
+            Refusal::Text { line } => {
+                write!(f, "line {line} of the program cannot be read, or the image has no cell for it")
+            }
+            Refusal::Label { line } => {
+                write!(f, "line {line} of the program has a label that is missing, set again or one too many")
+            }
             Refusal::Value { line } => write!(f, "line {line} of the program has a value out of range"),
             Refusal::EmptyCell => write!(f, "the image has an empty cell, which the listing was not allowed"),
             Refusal::TextRoom => write!(f, "the buffer is shorter than the image's text"),
             Refusal::Seats => write!(f, "the seats are not 1 to 16 with a record and equal parts for each"),
+            Refusal::Journal => {
+                write!(f, "the journal is none of 1 to 4,096 steps, or its last step is none of this machine")
+            }
+            Refusal::NothingKept => write!(f, "the journal has nothing to go back to"),
         }
     }
 }

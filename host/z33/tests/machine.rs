@@ -62,7 +62,11 @@ fn each_refusal_has_its_number_and_words() {
             "the image has no whole cells, runs past the end or holds a damaged cell",
         ),
         (m.set_register(Register::Pc, -1), 10, "the register cannot be set to that"),
-        (lent::list(&[0; 3], &mut [0; 8], false).map(drop), 16, "the image has an empty cell, which the listing was not allowed"),
+        (
+            lent::list(&[0; 3], &mut [0; 8], false).map(drop),
+            16,
+            "the image has an empty cell, which the listing was not allowed",
+        ),
         (lent::list(&[0; 3], &mut [0; 7], true).map(drop), 17, "the buffer is shorter than the image's text"),
     ];
     for (answer, number, words) in refusals {
@@ -81,7 +85,13 @@ fn each_refusal_has_its_number_and_words() {
 fn each_stop_has_its_number_and_words() {
     let push = one(19952, 0, 0); // push 0
     let cases: [(&[Cell], u64, Ran, (u64, u64), &str); 8] = [
-        (&[NOP, NOP], 1, Ran { stop: Stop::BudgetSpent, steps: 1, empty: 0 }, (0, 0), "budget spent after 1 step"),
+        (
+            &[NOP, NOP],
+            1,
+            Ran { stop: Stop::BudgetSpent, steps: 1, empty: 0 },
+            (0, 0),
+            "budget spent after 1 step",
+        ),
         (&[NOP, NOP, RESET], 9, Ran { stop: Stop::Reset, steps: 2, empty: 0 }, (1, 0), "reset after 2 steps"),
         // div 0,%a
         (

@@ -116,7 +116,7 @@ fn calm(machine: &mut trial::Trial) {
 }
 
 /// After so many steps, fewer than 200, it stops by this number.
-fn stops_after(machine: &mut trial::Trial, steps: usize, why: u64) {
+pub fn stops_after(machine: &mut trial::Trial, steps: usize, why: u64) {
     calm(machine);
     let nop = instruction(NOP, NONE, NONE);
     for address in 0..=steps {

@@ -7,12 +7,9 @@ use Rattle.noting.proofs.find.notes.Goals as goal
 
 pub returns : goal.returns
 unfolding step_writes M.guard M.step
-returns c =
-    let q = c.args.queue.now in
-    let o = c.args.output.now in
-    let m = c.args.m.now in
+returns c = λ q o t.
+    (let m = c.args.m.now in
     let before = machine_at c.args.cells.now q o m in
-    let t = c.take_turn-turn.ensures.value in
     let own = c.own_cell.ensures in
     let entry = c.entry_cells.ensures q o m ∙ ap entry_writes t in
-    ((λ i. own i ++ entry i), c.is_begun.ensures q o m before ∙ ap (λ (x : M.Turn). begun (M.limit before (M.settle x))) t)
+    ((λ i. own i ++ entry i), c.is_begun.ensures q o m before ∙ ap (λ (x : M.Turn). begun (M.limit before (M.settle x))) t))
