@@ -104,7 +104,7 @@ fn put_back(cells: &mut [i64], row: &mut [i64], kept: &[i64; NUMBERS])
 {
     let k = row::number_at(kept, places::ROW) as usize;
     put_cells(cells, kept, k);
-    row.copy_from_slice(row_in(kept));
+    word::copy::copy(row, row_in(kept));
 }
 
 // "and takes one off the count"

@@ -19,7 +19,7 @@ pub fn place_image(cells: &mut [i64], image: &[i64], start: usize)
     ensures { cells.new ≡ loaded start image.now cells.old }
 {
     let at = 3 * start;
-    cells[at..at + image.len()].copy_from_slice(image);
+    word::copy::copy(&mut cells[at..at + image.len()], image);
 }
 
 pub fn load(cells: &mut [i64], image: &[i64], start: u64) -> Result<(), Refusal>

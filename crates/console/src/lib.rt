@@ -103,5 +103,5 @@ pub fn drain_to(buffer: &mut [u8], output: &[u8], n: usize)
     requires { (n ≤ length output.now) × (n ≤ length buffer.old) }
     ensures { buffer.new ≡ drained n output.now buffer.old }
 {
-    buffer[..n].copy_from_slice(&output[..n]);
+    word::copy::copy(&mut buffer[..n], &output[..n]);
 }

@@ -42,7 +42,7 @@ pub fn write(image: &[i64], text: &mut [u8])
         let line = line_of(get_cell(image, n));
         let bytes = line.as_bytes();
         let end = at + bytes.len();
-        text[at..end].copy_from_slice(bytes);
+        word::copy::copy(&mut text[at..end], bytes);
         at = end;
     }
 }

@@ -22,7 +22,7 @@ pub fn put(out: &mut [u8], at: usize, s: &[u8]) -> usize
     ensures out_unchanged { drop result out.new ≡ drop result out.old }
 {
     let end = at + s.len();
-    out[at..end].copy_from_slice(s);
+    word::copy::copy(&mut out[at..end], s);
     end
 }
 

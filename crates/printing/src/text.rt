@@ -62,7 +62,7 @@ impl<const N: usize> Text<N> {
         let start = self.len;
         let end = start + bytes.len();
         let room = &mut self.bytes[..];
-        room[start..end].copy_from_slice(bytes);
+        word::copy::copy(&mut room[start..end], bytes);
         self.len = end;
     }
 

@@ -10,6 +10,8 @@ ghost use Rattle.definition.specs.Total.{total};
 
 use definition::Wrapped;
 
+pub mod copy;
+
 // The word's bits: two's complement.
 pub fn to_bits(x: i64) -> u64
     ensures { result ≡ bits x }
