@@ -21,6 +21,7 @@ pub struct Seen<'a>(pub &'a [i64], pub Option<Write>);
 
 // "an indexed sum wraps at 64 bits before it is tested as an address"
 #[tactic(auto, using(word::proofs::Laws::back), unfolding(definition::specs::Arguments::indexed, definition::specs::Word::wrap, definition::specs::Word::wrapped))]
+#[inline(always)]
 fn indexed(w: Word, k: i64) -> Option<u32>
     ensures { result ≡ indexed w k }
 {
@@ -34,6 +35,7 @@ fn indexed(w: Word, k: i64) -> Option<u32>
 
 // ResolveAddress: Dir, Ind, Idx
 #[tactic(auto, using(word::proofs::Laws::back), unfolding(definition::specs::Arguments::resolve))]
+#[inline(always)]
 fn resolve(s: &Registers, x: Operand) -> Option<u32>
     ensures { result ≡ resolve x s.now }
 {
@@ -47,6 +49,7 @@ fn resolve(s: &Registers, x: Operand) -> Option<u32>
 
 // The word of the address register is taken.
 #[tactic(auto, unfolding(definition::specs::Arguments::resolved))]
+#[inline(always)]
 fn count_base(s: &mut Registers, x: Operand)
     ensures { s.new ≡ resolved x s.old }
 {
@@ -58,6 +61,7 @@ fn count_base(s: &mut Registers, x: Operand)
 
 // The cell at an address that may be none.
 #[tactic(auto, unfolding(definition::specs::Arguments::cell_there, definition::specs::Arguments::read_there))]
+#[inline(always)]
 fn cell_there(seen: &Seen<'_>, n: Option<u32>) -> Result<Cell, Missing>
     ensures { result ≡ cell_there n (cells_of seen.now) }
 {
@@ -67,6 +71,7 @@ fn cell_there(seen: &Seen<'_>, n: Option<u32>) -> Result<Cell, Missing>
 
 // ExtractValue: Imm, Reg, Dir, Ind, Idx
 #[tactic(auto, using(word::proofs::Laws::back), unfolding(definition::specs::Arguments::extract_cell))]
+#[inline(always)]
 fn extract_cell(seen: &Seen<'_>, s: &Registers, x: Operand) -> Result<Cell, Missing>
     ensures { result ≡ extract_cell x (cells_of seen.now) s.now }
 {
@@ -82,6 +87,7 @@ fn extract_cell(seen: &Seen<'_>, s: &Registers, x: Operand) -> Result<Cell, Miss
 
 // The operand's cell.
 #[tactic(auto, unfolding(registers::specs::Meaning::res_of, definition::specs::Exec::or_given))]
+#[inline(always)]
 pub fn cell_of(seen: &Seen<'_>, s: &mut Registers, x: Operand) -> Result<Cell, Error>
     ensures { res_of result (core (cells_of seen.now) s.new) ≡ cell_of x (core (cells_of seen.now) s.old) }
 {
@@ -92,6 +98,7 @@ pub fn cell_of(seen: &Seen<'_>, s: &mut Registers, x: Operand) -> Result<Cell, E
 
 // Cell::extract_word: the cell's word, or the error. An empty cell's word is 0, and is counted.
 #[tactic(auto, using(word::proofs::Laws::back), unfolding(registers::specs::Meaning::res_of, definition::specs::Exec::or_word, definition::specs::Registers::counted))]
+#[inline(always)]
 pub fn take_word(s: &mut Registers, v: Cell, error: Error) -> Result<i64, Error>
     ensures { (l : List ℤ) → res_of result (core l s.new) ≡ take_word v error (core l s.old) }
 {
@@ -106,6 +113,7 @@ pub fn take_word(s: &mut Registers, v: Cell, error: Error) -> Result<i64, Error>
 
 // Cell::extract_address
 #[tactic(auto, using(word::proofs::Laws::back), unfolding(registers::specs::Meaning::res_of, definition::specs::Exec::or_address, definition::specs::Exec::and_then))]
+#[inline(always)]
 pub fn take_address(s: &mut Registers, v: Cell, error: Error) -> Result<u32, Error>
     ensures { (l : List ℤ) → res_of result (core l s.new) ≡ take_address v error (core l s.old) }
 {
@@ -115,6 +123,7 @@ pub fn take_address(s: &mut Registers, v: Cell, error: Error) -> Result<u32, Err
 
 // The operand's word.
 #[tactic(auto, unfolding(registers::specs::Meaning::res_of, definition::specs::Exec::and_then))]
+#[inline(always)]
 pub fn word_of(seen: &Seen<'_>, s: &mut Registers, x: Operand) -> Result<i64, Error>
     ensures { res_of result (core (cells_of seen.now) s.new) ≡ word_of x (core (cells_of seen.now) s.old) }
 {
@@ -124,6 +133,7 @@ pub fn word_of(seen: &Seen<'_>, s: &mut Registers, x: Operand) -> Result<i64, Er
 
 // The operand's word, a jump's target.
 #[tactic(auto, unfolding(registers::specs::Meaning::res_of, definition::specs::Exec::and_then))]
+#[inline(always)]
 pub fn target_of(seen: &Seen<'_>, s: &mut Registers, x: Operand) -> Result<u32, Error>
     ensures { res_of result (core (cells_of seen.now) s.new) ≡ target_of x (core (cells_of seen.now) s.old) }
 {
@@ -133,6 +143,7 @@ pub fn target_of(seen: &Seen<'_>, s: &mut Registers, x: Operand) -> Result<u32, 
 
 // The word of a register.
 #[tactic(auto, unfolding(registers::specs::Meaning::res_of))]
+#[inline(always)]
 pub fn register_word(s: &mut Registers, r: Reg) -> Result<i64, Error>
     ensures { (l : List ℤ) → res_of result (core l s.new) ≡ register_word r (core l s.old) }
 {
@@ -142,6 +153,7 @@ pub fn register_word(s: &mut Registers, r: Reg) -> Result<i64, Error>
 
 // The address that the operand names.
 #[tactic(auto, unfolding(registers::specs::Meaning::res_of, definition::specs::Exec::or_address))]
+#[inline(always)]
 pub fn place_of(s: &mut Registers, x: Operand) -> Result<u32, Error>
     ensures { (l : List ℤ) → res_of result (core l s.new) ≡ place_of x (core l s.old) }
 {
@@ -152,6 +164,7 @@ pub fn place_of(s: &mut Registers, x: Operand) -> Result<u32, Error>
 
 // A cell read at an address of the machine's own: pc, sp, or where pc and sr are saved.
 #[tactic(auto, unfolding(registers::specs::Meaning::res_of, definition::specs::Exec::or_cell))]
+#[inline(always)]
 pub fn read(seen: &Seen<'_>, n: u32) -> Result<Cell, Error>
     ensures { (s : R.Registers) → res_of result (core (cells_of seen.now) s) ≡ read n InvalidMemoryAccess (core (cells_of seen.now) s) }
 {

@@ -3,7 +3,6 @@
 
 ghost use Rattle.std.specs.Prelude.{◌≡◌, ◌<◌};
 ghost use Rattle.definition.specs.Encoding.{tag_of};
-ghost use Rattle.assembly.specs.Grammar.{mode};
 ghost use Rattle.assembly.specs.Assemble.{arg_misses, misses, arg_exceeds, exceeds, arg_register, arg_number, body_cell};
 ghost use Rattle.line.specs.Code.{arg_told, body_told};
 
@@ -71,11 +70,11 @@ pub fn arg_number(arg: Arg) -> i64
 }
 
 // "An instruction's tag is 2 + ((op × 36 + m1 × 6 + m2) × 25 + r1 × 5 + r2)."
-pub fn tag(op: u32, x: Arg, y: Arg) -> u64
-    ensures { (result ≡ tag_of op (mode (arg_told x)) (mode (arg_told y)) (arg_register (arg_told x)) (arg_register (arg_told y))) × (result < 9223372036854775808) }
+pub fn tag(op: u32, m1: u64, m2: u64, r1: u64, r2: u64) -> u64
+    requires { (m1 < 6) × (m2 < 6) × (r1 < 4294967296) × (r2 < 4294967296) }
+    ensures { (result ≡ tag_of op m1 m2 r1 r2) × (result < 9223372036854775808) }
 {
-    let form = op as u64 * 36 + x.mode() as u64 * 6 + y.mode() as u64;
-    2 + (form * 25 + arg_register(x) as u64 * 5 + arg_register(y) as u64)
+    2 + ((op as u64 * 36 + m1 * 6 + m2) * 25 + r1 * 5 + r2)
 }
 
 pub fn body_cell(body: Body) -> Cell
@@ -84,7 +83,13 @@ pub fn body_cell(body: Body) -> Cell
     match body {
         Body::Word(v) => memory::word_cell(v.value),
         Body::Code(op, x, y) => Cell {
-            tag: tag(op, x, y) as i64,
+            tag: tag(
+                op,
+                x.mode() as u64,
+                y.mode() as u64,
+                arg_register(x) as u64,
+                arg_register(y) as u64,
+            ) as i64,
             first: arg_number(x),
             second: arg_number(y),
         },

@@ -1,6 +1,6 @@
 -- A bench turn by turn and round by round, with its list and its four buffers whole.
 use mathlib.Core.Path.{◌≡◌, refl, sym, ap, ◌∙◌, subst}
-use mathlib.Core.Bool.{Bool, true, false, cond, ◌&&◌, ◌||◌}
+use mathlib.Core.Bool.{Bool, true, false, cond, ◌&&◌, ◌||◌, true≢false}
 use mathlib.Core.Logic.{◌≢◌}
 use mathlib.Core.List.{List, [], ◌∷◌, ◌++◌, append-nil}
 use Prim.Native.Nat.{ℕ, zero, suc, ◌+◌, ◌*◌, ◌-◌, ◌/◌, ◌%◌, ◌<◌, ◌≤◌}
@@ -18,10 +18,10 @@ use Rattle.definition.proofs.Verdict.{and_left, and_right, and_both}
 use Rattle.bench.specs.declared.Seat.{Seat}
 use Rattle.bench.specs.declared.Benched.{Benched}
 use Rattle.bench.specs.Seat.{no_seat, can_go_on}
-use Rattle.bench.specs.Bench.{Seated, seated, Bench, bench, turned, taken, round, round_of, some_can, goes_on, rounds, fuel, finished, machine_at, machines, seats_of, buffers_of, list_of, benched, seats_fit, seat_by_seat, bench_check, bench_of, bench_call}
+use Rattle.bench.specs.Bench.{Seated, seated, Bench, bench, takes_turn, turned, taken, round, round_of, some_can, goes_on, rounds, fuel, finished, machine_at, machines, seats_of, buffers_of, list_of, benched, seats_fit, seat_by_seat, bench_check, bench_of, bench_call}
 use Rattle.bench.specs.Turn.{with_machine, turn_at}
 use Rattle.bench.specs.Laws.{seat_at, AllAccepted, none, also}
-use Rattle.bench.proofs.Laws.{either, turned-accepted, taken-within, fuel-falls, round-accepted, bench-ends, settled-stays}
+use Rattle.bench.proofs.Laws.{either, passed, turned-accepted, taken-within, fuel-falls, round-accepted, bench-ends, settled-stays}
 use Rattle.bench.proofs.Parts.{AllSized, machine-is, with-machine, sized-after, start-joined, start-sized, start-list, start-length, divided, buffers-are, list_at, list_set}
 
 -- ---- what is left of a round, from place k on
@@ -46,6 +46,42 @@ pub finish-start : (xs : List Seated) (t : ℕ) → finish 0 xs t ≡ round t xs
 unfolding finish
 finish-start xs t = refl
 
+-- ---- nobody's turn
+
+idle-first : (t : ℕ) (x : Seated) (xs : List Seated) → goes_on (bench (x ∷ xs) t) ≡ false → takes_turn t x ≡ false
+unfolding goes_on some_can takes_turn
+idle-first t x xs h = go (ltb 0 t) (can_go_on x.seat) h
+  where
+    go : (a b : Bool) → a && (b || some_can xs) ≡ false → a && b ≡ false
+    go true true e = e
+    go true false e = refl
+    go false b e = refl
+
+idle-rest : (t : ℕ) (x : Seated) (xs : List Seated) → goes_on (bench (x ∷ xs) t) ≡ false → goes_on (bench xs t) ≡ false
+unfolding goes_on some_can
+idle-rest t x xs h = go (ltb 0 t) (can_go_on x.seat) h
+  where
+    go : (a b : Bool) → a && (b || some_can xs) ≡ false → a && some_can xs ≡ false
+    go true true e = absurd (true≢false e)
+    go true false e = e
+    go false b e = refl
+
+round-idle : (t : ℕ) (xs : List Seated) → goes_on (bench xs t) ≡ false → round t xs ≡ bench xs t
+unfolding round
+round-idle t [] h = refl
+round-idle t (x ∷ xs) h =
+    let q = passed t x (idle-first t x xs h) in
+    let e : t - taken t x ≡ t = omega (arith, q.1) in
+    ap (λ (j : ℕ). bench (turned t x ∷ (round j xs).seats) (round j xs).total) e
+    ∙ ap (λ (b : Bench). bench (turned t x ∷ b.seats) b.total) (round-idle t xs (idle-rest t x xs h))
+    ∙ ap (λ (y : Seated). bench (y ∷ xs) t) q.0
+
+finish-idle : (k : ℕ) (xs : List Seated) (t : ℕ) → goes_on (bench xs t) ≡ false → finish k xs t ≡ bench xs t
+unfolding finish
+finish-idle zero xs t h = round-idle t xs h
+finish-idle (suc k) [] t h = round-idle t [] h
+finish-idle (suc k) (x ∷ xs) t h = ap (λ (b : Bench). bench (x ∷ b.seats) b.total) (finish-idle k xs t (idle-rest t x xs h))
+
 -- ---- a round more
 
 finished-idle : (b : Bench) → goes_on b ≡ false → finished b ≡ b
@@ -58,12 +94,16 @@ some-fuel zero b h g = absurd (not-suc-le-zero h)
 some-fuel (suc n) b h g =
     let e : n ≡ suc n - 1 = omega arith in ap (λ (c : Bool). cond c (rounds n (round_of b)) b) g ∙ ap (λ (j : ℕ). rounds j (round_of b)) e
 
-pub finished-round : (b : Bench) → AllAccepted b.seats → goes_on b ≡ true → finished (round_of b) ≡ finished b
+pub finished-round : (b : Bench) → AllAccepted b.seats → finished (round_of b) ≡ finished b
 unfolding finished
-finished-round b ps g =
-    let l = fuel-falls b ps g in
-    let e : fuel (round_of b) + (fuel b - 1 - fuel (round_of b)) ≡ fuel b - 1 = omega (arith, l) in
-    sym ((bench-ends (round_of b) (round-accepted b.total b.seats ps)).enough (fuel b - 1 - fuel (round_of b))) ∙ ap (λ (j : ℕ). rounds j (round_of b)) e ∙ sym (some-fuel (fuel b) b (omega (arith, l)) g)
+finished-round b ps = go (goes_on b) refl
+  where
+    go : (c : Bool) → goes_on b ≡ c → rounds (fuel (round_of b)) (round_of b) ≡ rounds (fuel b) b
+    go true g =
+        let l = fuel-falls b ps g in
+        let e : fuel (round_of b) + (fuel b - 1 - fuel (round_of b)) ≡ fuel b - 1 = omega (arith, l) in
+        sym ((bench-ends (round_of b) (round-accepted b.total b.seats ps)).enough (fuel b - 1 - fuel (round_of b))) ∙ ap (λ (j : ℕ). rounds j (round_of b)) e ∙ sym (some-fuel (fuel b) b (omega (arith, l)) g)
+    go false g = ap (λ (e : Bench). rounds (fuel e) e) (round-idle b.total b.seats g)
 
 -- ---- one seat set
 

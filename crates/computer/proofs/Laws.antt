@@ -1,8 +1,30 @@
 -- Laws of a run.
-use Rattle.std.specs.Prelude.{◌≡◌, ℕ, suc, ◌+◌, ◌-◌, ◌<◌, ◌≤◌, Result, Ok, Err}
-use Rattle.std.proofs.Common.{sym, ◌∙◌, ap, subst, arith}
+use Rattle.std.specs.Prelude.{◌≡◌, ℕ, ℤ, List, suc, ◌+◌, ◌-◌, ◌<◌, ◌≤◌, Bool, true, false, cond, ltb, Some, ◌&&◌, eqb, length, Result, Ok, Err}
+use Rattle.std.proofs.lemmas.Bool.{lt-leb}
+use Rattle.std.proofs.Math.Bool.{and-false}
+use Rattle.definition.specs.Io.{Console, output_full}
+use Rattle.definition.specs.declared.Operand.{Operand}
+use Rattle.definition.specs.declared.Request.{Request}
+use Rattle.definition.specs.declared.Request.TheVariants.{Writes}
+use Rattle.definition.specs.declared.Cell.{Cell}
+use Rattle.definition.specs.declared.Error.{Error}
+use Rattle.definition.specs.declared.Instruction.{Instruction}
+use Rattle.definition.specs.declared.Op.{Op}
+use Rattle.definition.specs.declared.Op.TheVariants.{In, Out}
+use Rattle.definition.specs.declared.Registers.{Registers}
+use Rattle.definition.specs.Encoding.{extract_instruction}
+use Rattle.definition.specs.Memory.{cell_count, cell_at, get, found}
+use Rattle.definition.specs.Timer.{tick}
+use Rattle.registers.specs.Meaning.{res_of}
+use Rattle.std.proofs.lemmas.Option.{none-some}
+use borrow.Author.Tests.{ltb-true}
+use Rattle.definition.specs.Registers.{supervisor, with_pc}
+use Rattle.definition.specs.Exec.{Core, core, Res, ok, or_cell, check_privileged, branch, and_then}
+use Rattle.definition.specs.Instructions.{word_of, place_of, in_op, out_op, execute}
+use Rattle.computer.specs.Meaning.{asked, quietly}
+use Rattle.std.proofs.Common.{refl, sym, ◌∙◌, ap, subst, arith}
 use Rattle.definition.specs.declared.Stop.{Stop}
-use Rattle.definition.specs.Exception.{stop_number, stop_detail}
+use Rattle.definition.specs.Exception.{stop_number, stop_detail, ending}
 use Rattle.definition.specs.Total.{TOTAL-MOST, total}
 use Rattle.definition.specs.Runtime as M
 use Rattle.definition.specs.Runtime.{Machine, Run, runs, uncounted}
@@ -52,3 +74,54 @@ run_spent k b t m h g f =
     let j : b - k ≡ 0 = omega arith in
     let z : b ≡ k + 0 = omega arith in
     (λ i. runs 0 0 (z i) (total_none t f i) m) ∙ sym (ap (λ (x : ℕ). M.later k t (M.run x m)) j)
+
+-- where the record has room no port finds it full
+pub not_full : (p : ℕ) (k : Console) → k.written < length k.output → output_full p k ≡ false
+unfolding output_full
+not_full p k h = ap (λ (b : Bool). eqb p 111 && b) (lt-leb (length k.output) k.written h) ∙ and-false (eqb p 111)
+
+-- out, in a step begun with S set, asks the console
+pub out_asked : (m : Machine) (cost : ℕ) (x y : Operand) (c d e : Core) (w : ℤ) (p : ℕ) → supervisor c.regs ≡ true → ok w d ≡ word_of x c → ok p e ≡ place_of y d → M.serve m (Writes p w) cost e ≡ M.after_attempt m (asked cost (out_op x y c))
+unfolding out_op check_privileged branch and_then M.after_attempt
+out_asked m cost x y c d e w p s h k = rw (s, ← h, ← k) refl
+
+-- ---- a usual step
+
+-- a cell that is got is the one there
+pub got : (l : List ℤ) (n : ℕ) (v : Cell) → Some v ≡ get l n → (n < cell_count l) × (v ≡ cell_at l n)
+unfolding get found
+got l n v h = go (ltb n (cell_count l)) refl h
+  where
+    go : (b : Bool) → ltb n (cell_count l) ≡ b → Some v ≡ found b (cell_at l n) → (n < cell_count l) × (v ≡ cell_at l n)
+    go true t h = (ltb-true _ _ t, cc)
+    go false t h = absurd (none-some _ (sym h))
+
+pub fetched_code : (l : List ℤ) (s : Registers) (v : Cell) (i : Instruction) → Some v ≡ get l s.pc → extract_instruction v ≡ Some i → M.fetch (core l s) ≡ ok i (core l (with_pc (s.pc + 1) s))
+unfolding M.fetch and_then or_cell M.or_instruction
+fetched_code l s v i h e =
+    let n : suc s.pc ≡ s.pc + 1 = omega arith in
+    let f : M.fetch (core l s) ≡ ok i (core l (with_pc (suc s.pc) s)) = rw (← h, e) refl in
+    f ∙ ap (λ (k : ℕ). ok i (core l (with_pc k s))) n
+
+module _ (m : Machine) (g : ℕ) (i : Instruction) (d : Core) (e : g ≡ cond (supervisor m.core.regs) 0 m.fence) (f : M.fetch m.core ≡ ok i d) where
+  -- the step arrives where the instruction does
+  pub turned : M.after_attempt m (asked i.cycles (execute g i.op i.x i.y i.r1 i.r2 d)) ≡ M.turn m
+  unfolding M.turn M.guard M.attempt and_then
+  turned = rw (f, ← e) refl
+
+  pub turned_in : i.op ≡ In → M.after_attempt m (asked i.cycles (in_op i.x i.r2 d)) ≡ M.turn m
+  unfolding execute
+  turned_in o = ap (λ (p : Op). M.after_attempt m (asked i.cycles (execute g p i.x i.y i.r1 i.r2 d))) (sym o) ∙ turned
+
+  pub turned_out : i.op ≡ Out → M.after_attempt m (asked i.cycles (out_op i.x i.y d)) ≡ M.turn m
+  unfolding execute
+  turned_out o = ap (λ (p : Op). M.after_attempt m (asked i.cycles (execute g p i.x i.y i.r1 i.r2 d))) (sym o) ∙ turned
+
+module _ (m : Machine) (g : ℕ) (i : Instruction) (d : Core) (c : Core) where
+  pub quiet_ok : (u : Unit {0}) → g ≡ cond (supervisor m.core.regs) 0 m.fence → M.fetch m.core ≡ ok i d → quietly (Ok u) c ≡ execute g i.op i.x i.y i.r1 i.r2 d → M.poll (M.with_timer (tick i.cycles m.timer) (M.executed i.cycles c m)) ≡ M.turn m
+  unfolding res_of and_then M.after_attempt M.serve M.conclude
+  quiet_ok u e f h = ap (λ (r : Res Request). M.after_attempt m (asked i.cycles r)) h ∙ turned m g i d e f
+
+  pub quiet_err : (x : Error) → g ≡ cond (supervisor m.core.regs) 0 m.fence → M.fetch m.core ≡ ok i d → quietly (Err x) c ≡ execute g i.op i.x i.y i.r1 i.r2 d → M.ends (ending x) (M.with_core c m) ≡ M.turn m
+  unfolding res_of and_then M.after_attempt
+  quiet_err x e f h = ap (λ (r : Res Request). M.after_attempt m (asked i.cycles r)) h ∙ turned m g i d e f

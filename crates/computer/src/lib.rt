@@ -12,6 +12,11 @@ ghost use Rattle.computer.specs.Meaning.{run_of, ran_of};
 use definition::{Ran, Stop};
 use row::State;
 
+pub mod quiet;
+pub mod serve;
+pub mod usual;
+pub mod writes;
+
 // Where a run got: its stop, unless the budget is spent.
 #[derive(Clone, Copy)]
 pub struct Ended {
@@ -44,14 +49,33 @@ impl From<Ended> for Ran {
     }
 }
 
-// Computer::step: what it does is decided first, and then written.
+// A step that is decided first, and then written. Out of line: a run seldom takes one.
 #[tactic(auto, unfolding(definition::specs::Runtime::step))]
-pub fn step(cells: &mut [i64], queue: &[u8], output: &mut [u8], m: &mut State) -> Result<(), Stop>
+#[inline(never)]
+fn decided_step(
+    cells: &mut [i64],
+    queue: &[u8],
+    output: &mut [u8],
+    m: &mut State,
+) -> Result<(), Stop>
     requires { AcceptedMachine (machine_at cells.old queue.now output.old m.old) }
     ensures { outcome_of result (machine_at cells.new queue.now output.new m.new) ≡ step (machine_at cells.old queue.now output.old m.old) }
 {
     let turn = runtime::turn::take_turn(cells, queue, output, m);
     runtime::settle::settle(cells, output, m, turn)
+}
+
+// Computer::step
+#[inline(always)]
+pub fn step(cells: &mut [i64], queue: &[u8], output: &mut [u8], m: &mut State) -> Result<(), Stop>
+    requires { AcceptedMachine (machine_at cells.old queue.now output.old m.old) }
+    ensures { outcome_of result (machine_at cells.new queue.now output.new m.new) ≡ step (machine_at cells.old queue.now output.old m.old) }
+{
+    if let Some(i) = usual::usual(cells, output.len(), m) {
+        usual::take(cells, queue, output, m, &i)
+    } else {
+        decided_step(cells, queue, output, m)
+    }
 }
 
 // Computer::run, on a budget. A step that stops counts nothing, and the count of empty reads starts again with every step.

@@ -1,3 +1,4 @@
 pub mod Table
 pub mod Forms
 pub mod Damaged
+pub mod Code

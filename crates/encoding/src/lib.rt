@@ -8,6 +8,7 @@ ghost use Rattle.std.specs.Int.Signed.{lt_z};
 ghost use Rattle.definition.specs.Encoding.{legal, op_at, op_number, mode₁, mode₂, decode, register_fits, number_fits, sound_instruction, sound};
 ghost use Rattle.definition.specs.Registers.{reg_at};
 ghost use Rattle.definition.specs.Arguments.{operand};
+ghost use Rattle.encoding.specs.Code.{instruction_of};
 ghost use Rattle.encoding.specs.Damaged.{damaged};
 
 use definition::{Cell, Instruction, Op, Operand, Reg};
@@ -144,22 +145,90 @@ fn taken_apart(t: u32) -> Digits
     }
 }
 
+// An instruction's cell taken apart. What its numbers say is made where it is asked for: a step needs an operand or two of it, and a register.
+#[derive(Clone, Copy)]
+pub struct Code {
+    pub op: Op,
+    pub m1: u32,
+    pub m2: u32,
+    pub r1: u32,
+    pub r2: u32,
+    pub first: i64,
+    pub second: i64,
+    pub cycles: u64,
+}
+
+impl Code {
+    #[tactic(auto, using(word::proofs::Laws::back))]
+    #[inline(always)]
+    pub fn x(&self) -> Operand
+        ensures { result ≡ (instruction_of self.now).x }
+    {
+        operand(self.m1, self.r1, self.first)
+    }
+
+    #[tactic(auto, using(word::proofs::Laws::back))]
+    #[inline(always)]
+    pub fn y(&self) -> Operand
+        ensures { result ≡ (instruction_of self.now).y }
+    {
+        operand(self.m2, self.r2, self.second)
+    }
+
+    #[inline(always)]
+    pub fn r1(&self) -> Reg
+        ensures { result ≡ (instruction_of self.now).r1 }
+    {
+        reg_at(self.r1)
+    }
+
+    #[inline(always)]
+    pub fn r2(&self) -> Reg
+        ensures { result ≡ (instruction_of self.now).r2 }
+    {
+        reg_at(self.r2)
+    }
+
+    pub fn instruction(&self) -> Instruction
+        ensures { result ≡ instruction_of self.now }
+    {
+        Instruction {
+            op: self.op,
+            x: self.x(),
+            y: self.y(),
+            r1: self.r1(),
+            r2: self.r2(),
+            cycles: self.cycles,
+        }
+    }
+}
+
+// The cell whose tag less 2 is t.
+#[inline(always)]
+pub fn code_of(t: u32, first: i64, second: i64) -> Code
+    requires { (t < 29700) × (legal (op_number t) (mode₁ t) (mode₂ t) ≡ true) }
+    ensures { instruction_of result ≡ decode t first second }
+{
+    let tag = taken_apart(t);
+    let r1 = fifth(tag.r);
+    Code {
+        op: op_at(tag.op),
+        m1: tag.m1,
+        m2: tag.m2,
+        r1,
+        r2: tag.r - 5 * r1,
+        first,
+        second,
+        cycles: forms::cost_of(tag.op, tag.m1, tag.m2),
+    }
+}
+
 // What t, an instruction's tag less 2, says of the instruction.
 pub fn decode(t: u32, first: i64, second: i64) -> Instruction
     requires { (t < 29700) × (legal (op_number t) (mode₁ t) (mode₂ t) ≡ true) }
     ensures { result ≡ decode t first second }
 {
-    let tag = taken_apart(t);
-    let r1 = fifth(tag.r);
-    let r2 = tag.r - 5 * r1;
-    Instruction {
-        op: op_at(tag.op),
-        x: operand(tag.m1, r1, first),
-        y: operand(tag.m2, r2, second),
-        r1: reg_at(r1),
-        r2: reg_at(r2),
-        cycles: forms::cost_of(tag.op, tag.m1, tag.m2),
-    }
+    code_of(t, first, second).instruction()
 }
 
 // "r is 0 where the mode has no register"
@@ -200,7 +269,8 @@ pub fn sound_instruction(t: u32, first: i64, second: i64) -> bool
     forms::is_legal(tag.op, tag.m1, tag.m2) && operands_fit(tag.m1, tag.m2, tag.r, first, second)
 }
 
-// Empty, a word or an instruction: "Anything else is damaged."
+// Empty, a word or an instruction: "Anything else is damaged." In line, so that a call's acceptance test copies no cell.
+#[inline(always)]
 pub fn is_sound(v: Cell) -> bool
     ensures { result ≡ sound v }
 {

@@ -36,9 +36,10 @@ use Rattle.lines.specs.declared.Start.{Start}
 use Rattle.lines.specs.Reader.{has_digits, opened, broken, within, start_line, empty_cells}
 use Rattle.std.specs.Prelude.{Result, Ok, Err}
 use Rattle.source.specs.declared.Refused.{Refused}
+use Rattle.source.specs.declared.Loaded.{Loaded}
 use Rattle.definition.specs.declared.answers.Refusal.TheVariants.{ImageLine}
-use Rattle.source.specs.Source.{start_end, start_read, first_line, start_good, refused, judged, loaded, loading}
-use Rattle.source.proofs.Lowest.{call, number, good-loading, bad-loading}
+use Rattle.source.specs.Source.{start_end, start_read, first_line, start_good, refused, loading}
+use Rattle.source.proofs.Lowest.{good-loading, bad-loading}
 use Rattle.image_run.specs.Image.{image_row, image_run}
 
 abbrev start_of : ℤ → ℤ → ℤ → Start
@@ -141,26 +142,21 @@ accepted-runs s m i a =
     ∙ ap (run_call 100000) (sym (row_is m (nat_abs s.pc) (nat_abs s.sp) s.sr))
     ∙ call-on 100000 (start_machine m (nat_abs s.pc) (nat_abs s.sp) s.sr) a
 
-loaded-start : (x : Result (Unit {0}) Refused) (r s : Start) → loaded x r ≡ Ok s → r ≡ s
-loaded-start (Ok u) r s h = cc
-loaded-start (Err e) r s h = absurd (cc)
-
-abbrev answer_of : Called (Result Start Refused) (List ℤ) → Result Start Refused
-answer_of x = x.answer
+abbrev outcome_of : Called Loaded (List ℤ) → Result (Unit {0}) Refused
+outcome_of x = x.answer.outcome
 
 -- The lines that are printed of a loaded program are those of the definition's run,
-pub loaded-runs : (t : List ℕ) (s : Start) → (loading t empty_cells).answer ≡ Ok s → let l = (loading t empty_cells).left in image_run l (image_row s) ≡ ran (run 100000 (start_machine l (nat_abs s.pc) (nat_abs s.sp) s.sr))
-loaded-runs t s h =
+pub loaded-runs : (t : List ℕ) → (loading t empty_cells).answer.outcome ≡ Ok tt → let l = loading t empty_cells in let s = l.answer.start in image_run l.left (image_row s) ≡ ran (run 100000 (start_machine l.left (nat_abs s.pc) (nat_abs s.sp) s.sr))
+loaded-runs t h =
     by_bool (start_good t)
     (λ e. let g = good-loading t e in
     let r = (start_read (first_line t)).start in
     let i = good_start t e in
     let x = assemble 2048 (next_line t) in
-    let z = loaded-start (judged (call t) (number t)) r s (ap answer_of (sym g) ∙ h) in
-    rw (g, ← z) (accepted-runs r (answered x empty_cells).left i (start-accepted r (answered x empty_cells).left i (λ q. left-accepted q x (λ vs k. (cells-sound 2048 (next_line t) vs k, cells_fit 2048 (next_line t) vs k))))))
-    (λ e. absurd (let y : Err (refused (ImageLine 1)) ≡ Ok s = ap answer_of (sym (bad-loading t e)) ∙ h in cc))
+    rw g (accepted-runs r (answered x empty_cells).left i (start-accepted r (answered x empty_cells).left i (λ q. left-accepted q x (λ vs k. (cells-sound 2048 (next_line t) vs k, cells_fit 2048 (next_line t) vs k))))))
+    (λ e. absurd (let y : ◌≡◌ {A = Result (Unit {0}) Refused} (Err (refused (ImageLine 1))) (Ok tt) = ap outcome_of (sym (bad-loading t e)) ∙ h in cc))
 
 -- so that run refuses nothing.
-pub loaded-accepted : (t : List ℕ) (s : Start) → (loading t empty_cells).answer ≡ Ok s → let l = (loading t empty_cells).left in (image_run l (image_row s)).answer.refusal ≡ 0
+pub loaded-accepted : (t : List ℕ) → (loading t empty_cells).answer.outcome ≡ Ok tt → let l = loading t empty_cells in (image_run l.left (image_row l.answer.start)).answer.refusal ≡ 0
 unfolding ran
-loaded-accepted t s h = ap (λ (x : Called Ran Lent). x.answer.refusal) (loaded-runs t s h)
+loaded-accepted t h = ap (λ (x : Called Ran Lent). x.answer.refusal) (loaded-runs t h)

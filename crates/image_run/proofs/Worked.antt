@@ -28,7 +28,7 @@ use Rattle.assembly.specs.Reader.{number_from, register, expect, indexed, coded,
 use Rattle.assembly.specs.Reader as A
 use Rattle.assembly.specs.Assemble.{sets_label, place_in, arg_of, body_of, arg_misses, arg_exceeds, arg_register, arg_number, misses, exceeds, body_cell, count_set, any_sets, label_wrong, lowest, otherwise, assembled, assemble, put_cells, answered, assemble_call}
 use Rattle.assembly.specs.Assemble as J
-use Rattle.source.specs.Source.{bounded, start_end, start_read, start_good, after_minus, after_number, numeric_from, begins_numeric, line_after, numeric_line, judged, loading}
+use Rattle.source.specs.Source.{bounded, start_end, start_read, start_good, after_minus, after_number, numeric_from, begins_numeric, line_after, numeric_line, text_judged, loaded, loading}
 use Rattle.std.specs.Prelude.{None, Ok}
 use Rattle.printing.specs.Decimal.{decimal_in, numeral}
 use Rattle.report.specs.Text.{fields, line, answer_text, registers_text, cells_text, empty_text, run_text}
@@ -62,8 +62,8 @@ none-numeric : numeric_line 1 true (next_line input) ≡ None
 unfolding next_line is_inner past tail head is_digit after_minus after_number numeric_from begins_numeric line_after numeric_line following
 none-numeric = refl
 
-read : loading input empty_cells ≡ called (Ok (start_of (pos 0) (pos 0) (pos 0))) cells
-unfolding loading judged
+read : loading input empty_cells ≡ called (loaded (Ok tt) (start_of (pos 0) (pos 0) (pos 0))) cells
+unfolding loading text_judged
 read = rw (started, made, none-numeric, start_is)
 
 shown : image_text cells (start_of (pos 0) (pos 0) (pos 0)) ≡ output

@@ -7,6 +7,7 @@ use Rattle.lines.specs.declared.Start.{Start}
 use Rattle.lines.specs.Reader.{empty_cells}
 use Rattle.image_run.specs.declared.Output.{Output}
 use Rattle.source.specs.declared.Refused.{Refused}
+use Rattle.source.specs.declared.Loaded.{Loaded}
 use Rattle.source.specs.Source.{bounded, loading}
 use Rattle.source.specs.Message.{message_text}
 use Rattle.report.specs.Text.{run_text, refusal_text}
@@ -30,27 +31,27 @@ image_text cells s =
     run_text m.answer m.left.row
 
 -- What is printed where these cells are left: the lines of the run, or "`refused`, number and line".
-abbrev pub outcome_text : List ℤ → Result Start Refused → List ℕ
-outcome_text cells (Ok s) = image_text cells s
-outcome_text cells (Err e) = refusal_text e.number e.place
+abbrev pub outcome_text : List ℤ → Start → Result (Unit {0}) Refused → List ℕ
+outcome_text cells s (Ok _) = image_text cells s
+outcome_text cells s (Err e) = refusal_text e.number e.place
 
 -- What a person is told of a text on standard error.
-abbrev pub outcome_message : List ℕ → Result Start Refused → List ℕ
-outcome_message t (Ok s) = []
+abbrev pub outcome_message : List ℕ → Result (Unit {0}) Refused → List ℕ
+outcome_message t (Ok _) = []
 outcome_message t (Err e) = message_text t e.number e.place
 
 -- What is printed and told of a file within the limit.
-unfoldable pub report_of : Called (Result Start Refused) (List ℤ) → List ℕ
-report_of m = outcome_text m.left m.answer
+unfoldable pub report_of : Called Loaded (List ℤ) → List ℕ
+report_of m = outcome_text m.left m.answer.start m.answer.outcome
 
-unfoldable pub message_of : List ℕ → Called (Result Start Refused) (List ℤ) → List ℕ
-message_of t m = outcome_message t m.answer
+unfoldable pub message_of : List ℕ → Called Loaded (List ℤ) → List ℕ
+message_of t m = outcome_message t m.answer.outcome
 
 abbrev pub printed_texts : List ℕ → List ℕ × List ℕ
 printed_texts t = let m = loading t empty_cells in (report_of m, message_of t m)
 
 -- A file, "loaded from cell 0" of 2,048 empty cells.
-abbrev pub loaded_file : List ℕ → Called (Result Start Refused) (List ℤ)
+abbrev pub loaded_file : List ℕ → Called Loaded (List ℤ)
 loaded_file file = loading (bounded file) empty_cells
 
 -- What the runner prints of a whole file, on standard output and on standard error.

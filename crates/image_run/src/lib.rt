@@ -55,8 +55,9 @@ pub fn report_text<const N: usize>(t: &[u8]) -> (Report, Text<N>)
     ensures { result ≡ printed_texts t.now }
 {
     let mut cells = lines::empty_cells();
-    match source::load(t, &mut cells) {
-        Ok(start) => (report_image(&mut cells, start), Text::new()),
+    let loaded = source::load(t, &mut cells);
+    match loaded.outcome {
+        Ok(()) => (report_image(&mut cells, loaded.start), Text::new()),
         Err(e) => (
             report::refusal(e.number, e.place),
             source::message::message(t, e),

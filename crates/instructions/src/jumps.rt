@@ -11,6 +11,7 @@ use definition::{Error, Operand, Registers};
 
 // A jump, where its test holds: "A conditional jump not taken never reads its operand."
 #[tactic(auto, unfolding(registers::specs::Meaning::res_of, definition::specs::Exec::branch, definition::specs::Exec::and_then))]
+#[inline(always)]
 pub fn jump_if(seen: &Seen<'_>, s: &mut Registers, test: bool, x: Operand) -> Result<(), Error>
     ensures { res_of result (core (cells_of seen.now) s.new) ≡ branch test (jump x) (return tt) (core (cells_of seen.now) s.old) }
 {

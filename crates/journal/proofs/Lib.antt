@@ -10,6 +10,7 @@ pub mod Ring
 pub mod Grows
 pub mod Checks
 pub mod Unwind
+pub mod Run
 pub mod StepBack
 pub mod Past
 pub mod Calls

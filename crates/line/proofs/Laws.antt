@@ -216,6 +216,11 @@ pub ended-step : (p : List ℕ → Option ℕ) (n : Option (List ℕ)) (o : Outc
 unfolding ended
 ended-step p n o = refl
 
+-- the end of what was read after the spaces of a text
+pub ended-any : (p : List ℕ → Option ℕ) (n : Option (List ℕ)) (o : Outcome (G.Body Value)) (u t : List ℕ) → o ≡ content (values p) 32 u → u ≡ skip t → ended (values no_labels) 32 n o ≡ ended (values p) 32 n (content (values p) 32 (skip t))
+unfolding ended
+ended-any p n o u t e f = rw (e, f) refl
+
 module _ (p : List ℕ → Option ℕ) (t : List ℕ) where
   labelled : (n u : List ℕ) → gives n u ≡ label_at t → (is_labelled t ≡ true) × (n ≡ front is_letter (skip t)) × (u ≡ tail (past is_letter (skip t)))
   unfolding label_at

@@ -1,6 +1,5 @@
 // What stands in a cell, and the line around it.
 ghost use Rattle.std.specs.Prelude.{◌≡◌, ◌<◌};
-ghost use Rattle.expression.specs.Reader.{skip};
 ghost use Rattle.expression.specs.Values.{values, no_labels};
 ghost use Rattle.expression.specs.Labels.{lookup};
 ghost use Rattle.expression.specs.Code.{read_as};
@@ -67,11 +66,11 @@ pub fn content<'a>(s: &'a [u8], labels: &Labels) -> Read<'a, Body>
     operands(op, rest, labels)
 }
 
-// A line's content and its end, after its label.
-pub fn ended<'a>(label: Option<&'a [u8]>, s: &'a [u8], labels: &Labels) -> Read<'a, Line<'a>>
-    ensures { read_as line_told result ≡ ended (values (lookup labels.now)) 32 (label_told label.entry) (content (values (lookup labels.now)) 32 (skip s.now)) }
+// The line's end after what stands in its cell, whichever body was read.
+pub fn ended<'a>(label: Option<&'a [u8]>, body: Read<'a, Body>) -> Read<'a, Line<'a>>
+    ensures { read_as line_told result ≡ ended (values no_labels) 32 (label_told label.entry) (read_as body_told body.entry) }
 {
-    let (body, rest) = content(skip_spaces(s), labels)?;
+    let (body, rest) = body?;
     match rest {
         [b'\n', rest @ ..] => Some((Line { label, body }, rest)),
         _ => None,
@@ -84,7 +83,7 @@ pub fn row<'a>(s: &'a [u8], labels: &Labels) -> Read<'a, Line<'a>>
 {
     match split_label(s) {
         Some((name, _)) if name.len() > 16 => None,
-        Some((name, rest)) => ended(Some(name), rest, labels),
-        None => ended(None, s, labels),
+        Some((name, rest)) => ended(Some(name), content(skip_spaces(rest), labels)),
+        None => ended(None, content(skip_spaces(s), labels)),
     }
 }

@@ -48,8 +48,8 @@ pub fn inside_square<'a>(s: &'a [u8], labels: &Labels) -> Read<'a, Arg>
         let (register, rest) = register(name)?;
         return index_after(register, rest);
     }
-    let (value, rest) = sum(s, labels, DEPTH)?;
-    Some((Arg::Dir(value), rest))
+    let (address, rest) = sum(s, labels, DEPTH)?;
+    Some((Arg::Dir(address), rest))
 }
 
 pub fn operand<'a>(s: &'a [u8], labels: &Labels) -> Read<'a, Arg>

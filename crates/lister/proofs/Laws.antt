@@ -14,7 +14,7 @@ use Rattle.definition.specs.declared.answers.Refusal.TheVariants as R
 use Rattle.definition.specs.Answers.{number_of}
 use Rattle.definition.specs.Calls.{Called, called, passes}
 use Rattle.assembly.specs.Assemble.{counted}
-use Rattle.listing.specs.Call.{image_text, list_check, in_front, listed}
+use Rattle.listing.specs.Call.{image_text, listed_check, in_front, listed}
 use Rattle.report.specs.Text.{refusal_text}
 use Rattle.std.proofs.lemmas.Bool.{eqb-false}
 use Rattle.std.proofs.Math.Seq.{take_all, take-append_seam}
@@ -92,23 +92,23 @@ module _ (leave : Bool) (image : List ℤ) (left : List ℕ) (r : Counted) (e : 
     refused : r.refusal ≡ 0 → ⊥
     shown : refusal_text r.refusal r.place ≡ listing_text leave image
 
-  is-listed : passes (list_check leave image room) ≡ true → IsListed
+  is-listed : passes (listed_check leave image room) ≡ true → IsListed
   unfolding listed listing_text
   is-listed p =
       let c : called r left ≡ called (counted 0 0 (length (image_text image))) (in_front (image_text image) room) = e ∙ rw p in
       record { answer = ap (λ (x : Called Counted (List ℕ)). x.answer) c; text = ap (λ (x : Called Counted (List ℕ)). x.left) c; shown = rw p }
 
-  is-refused : passes (list_check leave image room) ≡ false → IsRefused
+  is-refused : passes (listed_check leave image room) ≡ false → IsRefused
   unfolding listed listing_text
   is-refused p =
-      let d = list_check leave image room in
+      let d = listed_check leave image room in
       let c : called r left ≡ called (counted d.refusal d.place 0) room = e ∙ rw p in
       let a = ap (λ (x : Called Counted (List ℕ)). x.answer) c in
       record { refused = λ z. eqb-false d.refusal 0 p (sym (ap (λ (x : Counted). x.refusal) a) ∙ z); shown = rw (p, a) }
 
   pub text-put : r.refusal ≡ 0 → (take r.count left ≡ listing_text leave image) × (r.count ≤ length left)
   text-put z =
-      by_bool (passes (list_check leave image room))
+      by_bool (passes (listed_check leave image room))
       (λ p. let l = is-listed p in
       let t = image_text image in
       let n = ap (λ (x : Counted). x.count) l.answer in
@@ -117,7 +117,7 @@ module _ (leave : Bool) (image : List ℤ) (left : List ℕ) (r : Counted) (e : 
 
   pub refusal-put : (r.refusal ≡ 0 → ⊥) → refusal_text r.refusal r.place ≡ listing_text leave image
   refusal-put n =
-      by_bool (passes (list_check leave image room))
+      by_bool (passes (listed_check leave image room))
       (λ p. absurd (n (ap (λ (x : Counted). x.refusal) (is-listed p).answer)))
       (λ p. (is-refused p).shown)
 

@@ -8,7 +8,7 @@ use Rattle.expression.specs.Reader.{same}
 use Rattle.lines.specs.declared.Reader.{Reader}
 use Rattle.lines.specs.declared.State.{State}
 use Rattle.lines.specs.Reader.{state, step, opened, empty_cells, following, broken_line}
-use Rattle.listing.specs.Call.{image_text, list_check}
+use Rattle.listing.specs.Call.{image_text, listed_check}
 use Rattle.report.specs.Text.{refusal_text}
 use Rattle.lister.specs.declared.seen.Seen.{Seen}
 
@@ -55,7 +55,7 @@ room = replicate 163840 0
 -- Card 3's text, or its refusal.
 unfoldable pub listing_text : Bool → List ℤ → List ℕ
 listing_text leave image =
-    let d = list_check leave image room in
+    let d = listed_check leave image room in
     cond (passes d) (image_text image) (refusal_text d.refusal d.place)
 
 -- "prints cells 0 to the highest named"

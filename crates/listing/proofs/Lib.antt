@@ -3,3 +3,4 @@ pub mod RoundTrip
 pub mod Cases
 pub mod Pieces
 pub mod Cells
+pub mod Answered

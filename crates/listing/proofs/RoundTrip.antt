@@ -26,7 +26,7 @@ use Rattle.assembly.specs.Assemble.{place_in, labels_of, line_values, line_cell,
 use Rattle.assembly.proofs.Complete.{rows-complete}
 use Rattle.assembly.proofs.Cells.{one-reading}
 use Rattle.listing.specs.Listing.{listing, image_cells, is_empty, any_empty}
-use Rattle.listing.specs.Call.{image_text, is_image, has_leave, list_check, in_front, listed, list_call}
+use Rattle.listing.specs.Call.{image_text, is_image, may_list, listed_check, in_front, listed, list_call}
 use Rattle.listing.specs.Theorems.{all_words, kept_at, kept, numbers_of, listed_back, ListLaws}
 use Rattle.listing.proofs.Readings.{shortest, line_of, line_reads, whole_of, line-of}
 
@@ -154,17 +154,17 @@ map-length (v ∷ vs) = ap suc (map-length vs)
 record Passed (leave : ℕ) (image : List ℤ) (buffer : List ℕ) : Type 0 where
   whole : length image % 3 ≡ 0
   undamaged : lowest_damaged 0 image ≡ cell_count image
-  leave-given : has_leave (not (eqb leave 0)) image ≡ true
+  leave-given : may_list (not (eqb leave 0)) image ≡ true
   is : list_call leave image buffer ≡ called (counted 0 0 (length (image_text image))) (in_front (image_text image) buffer)
 
 refused-is : {P : Type 0} (n : ℕ) (x : Called Counted (List ℕ)) (buffer : List ℕ) → x ≡ called (counted (suc n) 0 0) buffer → x.answer.refusal ≡ 0 → P
 refused-is n x buffer e h = let z : suc n ≡ 0 = sym (ap (λ (c : Called Counted (List ℕ)). c.answer.refusal) e) ∙ h in absurd (omega arith)
 
 list-passed : (leave : ℕ) (image : List ℤ) (buffer : List ℕ) → (list_call leave image buffer).answer.refusal ≡ 0 → Passed leave image buffer
-unfolding list_call listed list_check verdict is_image
+unfolding list_call listed listed_check verdict is_image
 list-passed leave image buffer h =
     by_bool (is_image image)
-    (λ a. by_bool (has_leave (not (eqb leave 0)) image)
+    (λ a. by_bool (may_list (not (eqb leave 0)) image)
     (λ b. by_bool (leb (length (image_text image)) (length buffer))
     (λ c. let i = both (eqb (length image % 3) 0) (eqb (lowest_damaged 0 image) (cell_count image)) a in
     record { whole = eqb-true (length image % 3) 0 i.0; undamaged = eqb-true (lowest_damaged 0 image) (cell_count image) i.1; leave-given = b; is = rw (a, b, c) })
@@ -196,21 +196,21 @@ exactly leave image buffer room w l h e =
     let q = list-passed leave image buffer h in
     round_trip leave image buffer room w l h ∙ ap (called (counted 0 0 (cell_count image))) (ap numbers_of (kept-cells (image_cells image) e) ∙ numbers-back image q.whole)
 
-none-empty : (image : List ℤ) → has_leave false image ≡ true → any_empty (image_cells image) ≡ false
-unfolding has_leave
+none-empty : (image : List ℤ) → may_list false image ≡ true → any_empty (image_cells image) ≡ false
+unfolding may_list
 none-empty image h = by_bool (any_empty (image_cells image)) (λ e. clash (rw e at h) refl) (λ e. e)
 
 behind : (leave : ℕ) (image : List ℤ) (buffer : List ℕ) → drop (list_call leave image buffer).answer.count (list_call leave image buffer).left ≡ drop (list_call leave image buffer).answer.count buffer
 unfolding list_call listed
 behind leave image buffer =
-    by_bool (passes (list_check (not (eqb leave 0)) image buffer))
+    by_bool (passes (listed_check (not (eqb leave 0)) image buffer))
     (λ e. rw e (drop-append_seam (image_text image) (drop (length (image_text image)) buffer)))
     (λ e. rw e refl)
 
 keeps : (leave : ℕ) (image : List ℤ) (buffer : List ℕ) → (list_call leave image buffer).answer.refusal ≢ 0 → (list_call leave image buffer).left ≡ buffer
 unfolding list_call listed
 keeps leave image buffer h =
-    by_bool (passes (list_check (not (eqb leave 0)) image buffer))
+    by_bool (passes (listed_check (not (eqb leave 0)) image buffer))
     (λ e. absurd (h (rw e refl)))
     (λ e. rw e refl)
 

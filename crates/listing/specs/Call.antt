@@ -16,13 +16,20 @@ unfoldable pub is_image : List ℤ → Bool
 is_image image = eqb (length image % 3) 0 && eqb (lowest_damaged 0 image) (cell_count image)
 
 -- "16 empty cell without leave"
-unfoldable pub has_leave : Bool → List ℤ → Bool
-has_leave leave image = leave || not (any_empty (image_cells image))
+unfoldable pub may_list : Bool → List ℤ → Bool
+may_list leave image = leave || not (any_empty (image_cells image))
+
+-- Any number but 0 is leave.
+unfoldable pub has_leave : ℕ → List ℤ → Bool
+has_leave leave image = may_list (not (eqb leave 0)) image
 
 -- "17 text buffer too short; in that order after 15"
-unfoldable pub list_check : Bool → List ℤ → List ℕ → Done
-list_check leave image buffer =
-    verdict (test 9 0 (is_image image) ∷ test 16 0 (has_leave leave image) ∷ test 17 0 (leb (length (image_text image)) (length buffer)) ∷ [])
+unfoldable pub listed_check : Bool → List ℤ → List ℕ → Done
+listed_check leave image buffer =
+    verdict (test 9 0 (is_image image) ∷ test 16 0 (may_list leave image) ∷ test 17 0 (leb (length (image_text image)) (length buffer)) ∷ [])
+
+unfoldable pub list_check : ℕ → List ℤ → List ℕ → Done
+list_check leave image buffer = listed_check (not (eqb leave 0)) image buffer
 
 -- A text in the front of a buffer: "the room behind is kept".
 abbrev pub in_front : List ℕ → List ℕ → List ℕ
@@ -31,7 +38,7 @@ in_front t buffer = t ++ drop (length t) buffer
 -- "It answers the count of cells written, Card 3's of bytes, from the front".
 unfoldable pub listed : Bool → List ℤ → List ℕ → Called Counted (List ℕ)
 listed leave image buffer =
-    let d = list_check leave image buffer in
+    let d = listed_check leave image buffer in
     cond
     (passes d)
     (called (counted 0 0 (length (image_text image))) (in_front (image_text image) buffer))

@@ -9,7 +9,7 @@ pub mod operand;
 ghost use Rattle.std.specs.Prelude.{◌≡◌, ◌&&◌};
 ghost use Rattle.definition.specs.Calls.{called};
 ghost use Rattle.definition.specs.Answers.{counted_of};
-ghost use Rattle.listing.specs.Call.{is_image, has_leave, listed, list_call};
+ghost use Rattle.listing.specs.Call.{is_image, may_list, has_leave, listed, list_call};
 
 use definition::Counted;
 use definition::answers::{Refusal, check};
@@ -23,20 +23,28 @@ pub fn is_image(image: &[i64]) -> bool
 }
 
 // "16 empty cell without leave"
-#[tactic(auto, unfolding(crate::specs::Call::has_leave))]
-pub fn has_leave(leave: bool, image: &[i64]) -> bool
-    ensures { result ≡ has_leave leave image.now }
+#[tactic(auto, unfolding(crate::specs::Call::may_list))]
+pub fn may_list(leave: bool, image: &[i64]) -> bool
+    ensures { result ≡ may_list leave image.now }
 {
     leave || !lines::any_empty(image)
 }
 
+// Any number but 0 is leave.
+#[tactic(auto, unfolding(crate::specs::Call::has_leave))]
+pub fn has_leave(leave: u64, image: &[i64]) -> bool
+    ensures { result ≡ has_leave leave image.now }
+{
+    may_list(leave != 0, image)
+}
+
 // The image's text put into the front of the buffer, and its length, or why the buffer is left as it is.
-#[tactic(auto, using(crate::proofs::Cells::answers), unfolding(crate::specs::Call::listed, crate::specs::Call::list_check, definition::specs::Calls::verdict))]
+#[tactic(auto, using(crate::proofs::Cells::answers), unfolding(crate::specs::Call::listed, crate::specs::Call::listed_check, definition::specs::Calls::verdict))]
 pub fn listed(image: &[i64], text: &mut [u8], leave: bool) -> Result<u64, Refusal>
     ensures { called (counted_of result) text.new ≡ listed leave image.now text.old }
 {
     check(is_image(image), Refusal::Image)?;
-    check(has_leave(leave, image), Refusal::EmptyCell)?;
+    check(may_list(leave, image), Refusal::EmptyCell)?;
     let bytes = lines::measure(image, text.len()).ok_or(Refusal::TextRoom)?;
     lines::write(image, text);
     Ok(bytes as u64)

@@ -17,6 +17,7 @@ pub struct Write {
 }
 
 // The cell that the three numbers from place i on are: in the cells, in a row, in a record.
+#[inline(always)]
 pub fn cell_from(numbers: &[i64], i: usize) -> Cell
     requires { i + 2 < length numbers.now }
     ensures { result ≡ cell (get_or numbers.now i (pos 0)) (get_or numbers.now (i + 1) (pos 0)) (get_or numbers.now (i + 2) (pos 0)) }
@@ -28,6 +29,7 @@ pub fn cell_from(numbers: &[i64], i: usize) -> Cell
     }
 }
 
+#[inline(always)]
 pub fn cell_into(numbers: &mut [i64], i: usize, v: Cell)
     requires { i + 2 < length numbers.old }
     ensures { numbers.new ≡ set (set (set numbers.old i v.tag) (i + 1) v.first) (i + 2) v.second }
@@ -38,6 +40,7 @@ pub fn cell_into(numbers: &mut [i64], i: usize, v: Cell)
 }
 
 #[tactic(auto, unfolding(definition::specs::Memory::cell_at))]
+#[inline(always)]
 pub fn get_cell(cells: &[i64], n: usize) -> Cell
     requires { n < cell_count cells.now }
     ensures { result ≡ cell_at cells.now n }
@@ -46,6 +49,7 @@ pub fn get_cell(cells: &[i64], n: usize) -> Cell
 }
 
 // Memory::get
+#[inline(always)]
 pub fn get(cells: &[i64], n: u32) -> Option<Cell>
     ensures { result ≡ get cells.now n }
 {
@@ -58,6 +62,7 @@ pub fn get(cells: &[i64], n: u32) -> Option<Cell>
 }
 
 // Memory::get once the write that waits is made.
+#[inline(always)]
 pub fn read_over(cells: &[i64], write: Option<Write>, n: u32) -> Option<Cell>
     ensures { result ≡ get (overlay write cells.now) n }
 {
@@ -84,6 +89,7 @@ pub fn put_over(cells: &mut [i64], write: Option<Write>)
 
 // Memory::set
 #[tactic(auto, unfolding(definition::specs::Memory::put_cell))]
+#[inline(always)]
 pub fn put_cell(cells: &mut [i64], n: usize, v: Cell)
     requires { n < cell_count cells.old }
     ensures { cells.new ≡ put_cell cells.old n v }
@@ -92,6 +98,7 @@ pub fn put_cell(cells: &mut [i64], n: usize, v: Cell)
 }
 
 // Cell::extract_word, which tells an empty cell's word 0 from a word. A word is found by the first test.
+#[inline(always)]
 pub fn extract_word(v: Cell) -> Word
     ensures { result ≡ extract_word v }
 {
@@ -104,6 +111,7 @@ pub fn extract_word(v: Cell) -> Word
     }
 }
 
+#[inline(always)]
 pub fn as_address(w: Word) -> Option<u32>
     ensures { result ≡ as_address w }
 {
@@ -115,6 +123,7 @@ pub fn as_address(w: Word) -> Option<u32>
 }
 
 // Cell::extract_address
+#[inline(always)]
 pub fn extract_address(v: Cell) -> Option<u32>
     ensures { result ≡ extract_address v }
 {
@@ -128,6 +137,7 @@ pub fn is_instruction(v: Cell) -> bool
     2 <= v.tag
 }
 
+#[inline(always)]
 pub fn word_cell(w: i64) -> Cell
     ensures { result ≡ wordCell w }
 {
@@ -138,6 +148,7 @@ pub fn word_cell(w: i64) -> Cell
     }
 }
 
+#[inline(always)]
 pub fn address_cell(n: u32) -> Cell
     ensures { result ≡ wordCell (pos n) }
 {

@@ -14,6 +14,7 @@ pub mod words;
 
 // Z and N
 #[tactic(auto, using(word::proofs::Laws::back))]
+#[inline(always)]
 pub fn sign_flags(s: &mut Registers, w: i64)
     ensures { s.new ≡ sign_flags w s.old }
 {
@@ -23,6 +24,7 @@ pub fn sign_flags(s: &mut Registers, w: i64)
 
 // "and, or, xor, not, div, shl and shr set Z and N and leave V."
 #[tactic(auto, using(word::proofs::Laws::back), unfolding(definition::specs::Instructions::put_result, definition::specs::Instructions::and_flags))]
+#[inline(always)]
 pub fn put_result(s: &mut Registers, r: Reg, w: i64) -> Result<(), Error>
     ensures { (result, s.new) ≡ settled s.old (put_result r w s.old) }
 {
@@ -33,6 +35,7 @@ pub fn put_result(s: &mut Registers, r: Reg, w: i64) -> Result<(), Error>
 
 // "add, sub, mul and neg wrap at 64 bits and set V, Z, N."
 #[tactic(auto, using(word::proofs::Laws::back), unfolding(definition::specs::Instructions::put_wrapped, definition::specs::Instructions::and_flags))]
+#[inline(always)]
 pub fn put_wrapped(s: &mut Registers, r: Reg, x: Wrapped) -> Result<(), Error>
     ensures { (result, s.new) ≡ settled s.old (put_wrapped r x s.old) }
 {
@@ -44,6 +47,7 @@ pub fn put_wrapped(s: &mut Registers, r: Reg, x: Wrapped) -> Result<(), Error>
 
 // "cmp sets Z if the words are equal and N if operand < register."
 #[tactic(auto, using(word::proofs::Laws::back), unfolding(definition::specs::Instructions::put_compared))]
+#[inline(always)]
 pub fn put_compared(s: &mut Registers, v: i64, w: i64) -> Result<(), Error>
     ensures { (result, s.new) ≡ settled s.old (put_compared v w s.old) }
 {
@@ -54,6 +58,7 @@ pub fn put_compared(s: &mut Registers, v: i64, w: i64) -> Result<(), Error>
 
 // "Operand 0, or smallest word / -1, raises code 1."
 #[tactic(auto, using(word::proofs::Laws::back), unfolding(definition::specs::Instructions::put_quotient))]
+#[inline(always)]
 pub fn put_quotient(s: &mut Registers, r: Reg, x: Option<i64>) -> Result<(), Error>
     ensures { (result, s.new) ≡ settled s.old (put_quotient r x s.old) }
 {
@@ -63,6 +68,7 @@ pub fn put_quotient(s: &mut Registers, r: Reg, x: Option<i64>) -> Result<(), Err
 
 // The amount of a shift: "Shift amounts are 0 to 63; others raise code 2." The test is the definition's own, and the cast behind it fits.
 #[tactic(auto, using(word::proofs::Laws::back), unfolding(definition::specs::Word::is_shift))]
+#[inline(always)]
 pub fn amount(v: i64) -> Result<u32, Error>
     ensures value { result ≡ cond (is_shift v) (Ok (nat_abs v)) (Err InvalidInstruction) }
     ensures below { IfOk result (λ n. n < 64) }

@@ -16,6 +16,7 @@ use definition::{Error, Operand, Reg, Registers};
 
 // An instruction of two words, and what k does to the registers with them.
 #[tactic(auto, using(registers::proofs::Laws::settled_is), unfolding(registers::specs::Meaning::res_of, definition::specs::Exec::and_then, definition::specs::Instructions::words))]
+#[inline(always)]
 fn words<F: FnOnce(&mut Registers, i64, i64) -> Result<(), Error>>(
     seen: &Seen<'_>,
     s: &mut Registers,
@@ -100,6 +101,7 @@ pub fn shr(seen: &Seen<'_>, s: &mut Registers, x: Operand, r: Reg) -> Result<(),
     )
 }
 
+#[inline(always)]
 pub fn cmp(seen: &Seen<'_>, s: &mut Registers, x: Operand, r: Reg) -> Result<(), Error>
     ensures { res_of result (core (cells_of seen.now) s.new) ≡ words x r put_compared (core (cells_of seen.now) s.old) }
 {

@@ -2,12 +2,12 @@
 use mathlib.Core.Path.{◌≡◌, sym, ap, ◌∙◌}
 use mathlib.Core.Bool.{true, false, true≢false, false≢true}
 use mathlib.Core.List.{List, [], ◌∷◌, ◌++◌, append_assoc}
-use Prim.Native.Nat.{ℕ, zero, suc, ◌-◌, ◌/◌, ◌%◌, ◌^◌, ◌≤◌, ◌<◌}
+use Prim.Native.Nat.{ℕ, zero, suc, ◌+◌, ◌-◌, ◌/◌, ◌%◌, ◌^◌, ◌≤◌, ◌<◌}
 use native.Mathlib.Omega.{arith}
 use native.Mathlib.Nat.{pow-zero, pow-suc}
 use lib.IntN.{ℤ, pos, negsuc, nat_abs}
 use lib.ListN.{length, drop, length-append}
-use lib.Seq.{drop-length}
+use lib.Seq.{drop-length, drop-drop}
 use borrow.Author.Tests.{lt-ltb, le-ltb}
 use Rattle.std.proofs.lemmas.Grind.{common_steps}
 use Rattle.io.specs.Digits.{hex_digit_ascii, last_digits, IsDigitCount}
@@ -26,6 +26,14 @@ put_next x p rest e l w = ap (λ (t : List ℕ). t ++ rest) e ∙ append_assoc x
 
 pub drop-end {ℓ} : {A : Type ℓ} (l : List A) (i : ℕ) → i ≡ length l → drop i l ≡ []
 drop-end l i e = rw (e, drop-length)
+
+-- what two texts, one after the other, keep behind them
+pub kept_then : (x y z : List ℕ) (a b : ℕ) → a ≤ b → drop a y ≡ drop a x → drop b z ≡ drop b y → drop b z ≡ drop b x
+kept_then x y z a b h p q =
+    let e : a + (b - a) ≡ b = omega arith in
+    let f : drop b y ≡ drop (b - a) (drop a y) = sym (drop-drop (b - a) a y ∙ ap (λ (k : ℕ). drop k y) e) in
+    let g : drop b x ≡ drop (b - a) (drop a x) = sym (drop-drop (b - a) a x ∙ ap (λ (k : ℕ). drop k x) e) in
+    q ∙ f ∙ ap (λ (l : List ℕ). drop (b - a) l) p ∙ sym g
 
 -- ---- the digits are the ones that `io::decimal` gives
 

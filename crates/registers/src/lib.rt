@@ -30,6 +30,7 @@ pub enum Flag {
 }
 
 impl Flag {
+    #[inline(always)]
     fn bit(self) -> u64
         ensures value { result ≡ flag_bit self }
         ensures word { result < 64 }
@@ -45,6 +46,7 @@ impl Flag {
 }
 
 // StatusRegister::contains
+#[inline(always)]
 pub fn get_flag(s: &Registers, f: Flag) -> bool
     ensures { result ≡ bit (flag_bit f) s.now.sr }
 {
@@ -52,6 +54,7 @@ pub fn get_flag(s: &Registers, f: Flag) -> bool
 }
 
 #[tactic(auto, unfolding(definition::specs::Registers::supervisor))]
+#[inline(always)]
 pub fn supervisor(s: &Registers) -> bool
     ensures { result ≡ supervisor s.now }
 {
@@ -59,6 +62,7 @@ pub fn supervisor(s: &Registers) -> bool
 }
 
 #[tactic(auto, unfolding(definition::specs::Registers::interrupt_enable))]
+#[inline(always)]
 pub fn interrupt_enable(s: &Registers) -> bool
     ensures { result ≡ interrupt_enable s.now }
 {
@@ -66,6 +70,7 @@ pub fn interrupt_enable(s: &Registers) -> bool
 }
 
 // StatusRegister::set
+#[inline(always)]
 pub fn put_flag(s: &mut Registers, f: Flag, on: bool)
     ensures { s.new ≡ put_flag (flag_bit f) on s.old }
 {
@@ -82,6 +87,7 @@ pub fn below(sp: u32) -> u32
 
 // Registers::get
 #[tactic(auto, using(word::proofs::Laws::back), unfolding(definition::specs::Registers::get_reg))]
+#[inline(always)]
 pub fn get_reg(s: &Registers, r: Reg) -> Cell
     ensures { result ≡ get_reg r s.now }
 {
@@ -96,6 +102,7 @@ pub fn get_reg(s: &Registers, r: Reg) -> Cell
 
 // The word is taken: an empty cell's is counted, here alone.
 #[tactic(auto, unfolding(definition::specs::Registers::counted))]
+#[inline(always)]
 pub fn count(s: &mut Registers, w: Word)
     ensures { s.new ≡ counted w s.old }
 {
@@ -106,6 +113,7 @@ pub fn count(s: &mut Registers, w: Word)
 
 // The address that pc or sp takes, or else its error.
 #[tactic(auto, unfolding(definition::specs::Registers::counted))]
+#[inline(always)]
 fn taken_address(s: &mut Registers, w: Word, error: Error) -> Result<u32, Error>
     ensures { (result, s.new) ≡ addressed s.old (as_address w) (counted w s.old) error }
 {
@@ -116,6 +124,7 @@ fn taken_address(s: &mut Registers, w: Word, error: Error) -> Result<u32, Error>
 
 // "Writing sr with S clear raises code 3, whatever the value."
 #[tactic(auto, using(word::proofs::Laws::back), unfolding(definition::specs::Registers::put_sr, definition::specs::Registers::counted))]
+#[inline(always)]
 fn put_sr(s: &mut Registers, w: Word) -> Result<(), Error>
     ensures { (result, s.new) ≡ settled s.old (put_sr (supervisor s.old) w (counted w s.old)) }
 {
@@ -134,6 +143,7 @@ fn put_sr(s: &mut Registers, w: Word) -> Result<(), Error>
 
 // Computer::set_register
 #[tactic(auto, unfolding(definition::specs::Registers::put_reg, definition::specs::Registers::put_pc, definition::specs::Registers::put_sp, definition::specs::Registers::counted, definition::specs::Memory::extract_address))]
+#[inline(always)]
 pub fn put_reg(s: &mut Registers, r: Reg, v: Cell) -> Result<(), Error>
     ensures { (result, s.new) ≡ settled s.old (put_reg r v s.old) }
 {

@@ -1,14 +1,15 @@
 -- What the code's answers mean in the definition. Cells, queue and output record are lent beside them: l, q and o.
-use Rattle.std.specs.Prelude.{◌≡◌, List, ℕ, ℤ, ◌<◌, Some, None, Result, Ok, Err, cond}
+use Rattle.std.specs.Prelude.{◌≡◌, List, ℕ, ℤ, ◌<◌, Option, Some, None, Result, Ok, Err, cond}
 use Rattle.definition.specs.declared.Ending.{Ending}
 use Rattle.definition.specs.declared.Stop.{Stop}
 use Rattle.definition.specs.Registers.{supervisor}
 use Rattle.definition.specs.Runtime as M
-use Rattle.definition.specs.Runtime.{Machine, machine}
+use Rattle.definition.specs.Runtime.{Machine, machine, saved}
 use Rattle.console.specs.Meaning.{console_of, sent_to}
 use Rattle.registers.specs.declared.Plan.{Plan}
 use Rattle.registers.specs.Meaning.{core_of}
 use Rattle.row.specs.declared.State.{State}
+use Rattle.runtime.specs.declared.commit.Saved.{Saved}
 use Rattle.runtime.specs.declared.effects.Effects.{Effects}
 
 -- The first address that a step from m may write.
@@ -22,6 +23,11 @@ Room size m f = (b : ℕ) → f.byte ≡ Some b → m.k.written < size
 -- The machine m with the effects done: the byte that waits goes behind those that m has written.
 abbrev pub effects_at : List ℤ → List ℕ → List ℕ → State → Effects → Machine
 effects_at l q o m f = machine (core_of l f.plan) f.cycles (console_of f.k q (sent_to m.k.written f.byte o)) m.fence f.timer
+
+-- The cells once exception entry has saved what it saves, if it comes.
+abbrev pub saves : Option Saved → List ℤ → List ℤ
+saves None l = l
+saves (Some e) l = saved e.pc e.sr e.code l
 
 -- Of the step from m so far the instruction's part alone.
 abbrev pub plan_only : State → Plan → Effects

@@ -3,10 +3,11 @@
 ghost use Rattle.std.specs.Prelude.{◌≡◌, ◌≤◌, ◌<◌, ◌+◌, ◌^◌, ℤ, ℕ, List};
 ghost use Rattle.definition.specs.Memory.{cell_count};
 ghost use Rattle.definition.specs.Registers.{with_sr};
-ghost use Rattle.definition.specs.Runtime.{has_handler, saved, entered_sr, entered};
+ghost use Rattle.definition.specs.Runtime.{has_handler, entered_sr, entered};
 ghost use Rattle.memory.specs.Overlay.{overlay};
 ghost use Rattle.row.specs.Meaning.{machine_at};
 
+use crate::commit::{Saved, write};
 use definition::Registers;
 use memory::Write;
 use registers::Flag;
@@ -24,17 +25,6 @@ pub fn has_handler(cells: &[i64], write: Option<Write>) -> bool
     }
 }
 
-// "pc, sr and code go to cells 100, 101, 102"
-#[tactic(auto, using(word::proofs::Laws::back), unfolding(definition::specs::Runtime::saved))]
-fn save(cells: &mut [i64], pc: u32, sr: i64, code: u32)
-    requires { 256 ≤ cell_count cells.old }
-    ensures { cells.new ≡ saved pc sr code cells.old }
-{
-    memory::put_cell(cells, 100, memory::address_cell(pc));
-    memory::put_cell(cells, 101, memory::word_cell(sr));
-    memory::put_cell(cells, 102, memory::address_cell(code));
-}
-
 // "S is set", "Code 0 also clears I."
 #[tactic(auto, using(word::proofs::Laws::back, crate::proofs::Laws::entered_zero, crate::proofs::Laws::entered_suc))]
 fn put_flags(s: &mut Registers, code: u32)
@@ -47,13 +37,18 @@ fn put_flags(s: &mut Registers, code: u32)
 }
 
 // "pc is 200", "and one cycle is added"
-#[tactic(auto, using(word::proofs::Laws::back), unfolding(definition::specs::Runtime::entered, definition::specs::Runtime::entered_core, definition::specs::Runtime::entered_registers))]
+#[tactic(auto, using(word::proofs::Laws::back), unfolding(definition::specs::Runtime::entered, definition::specs::Runtime::entered_core, definition::specs::Runtime::entered_registers, memory::specs::Overlay::overlay))]
 pub fn enter(cells: &mut [i64], m: &mut State, code: u32)
     requires least { 256 ≤ cell_count cells.old }
     requires cycles { m.old.cycles + 1 < 2 ^ 64 }
     ensures { (q o : List ℕ) → machine_at cells.new q o m.new ≡ entered code (machine_at cells.old q o m.old) }
 {
-    save(cells, m.s.pc, m.s.sr, code);
+    let entry = Saved {
+        pc: m.s.pc,
+        sr: m.s.sr,
+        code,
+    };
+    write(cells, &mut [], 0, None, Some(entry), None);
     m.s.pc = 200;
     put_flags(&mut m.s, code);
     m.cycles += 1;

@@ -1,15 +1,17 @@
 // Computer::decode_instruction, and the instruction executed.
 
-ghost use Rattle.std.specs.Prelude.{◌≡◌, ◌≤◌, ◌<◌, ℕ, true, None, IfOk};
+ghost use Rattle.std.specs.Prelude.{◌≡◌, ◌≤◌, ◌<◌, ℕ, true, None, Some, IfOk, IfSome, MatchOption};
 ghost use Rattle.definition.specs.Constants.{CELLS-MOST};
 ghost use Rattle.definition.specs.Memory.{cell_count, cell_at};
 ghost use Rattle.definition.specs.Encoding.{sound, extract_instruction};
 ghost use Rattle.definition.specs.Exec.{Core};
 ghost use Rattle.definition.specs.Runtime.{fetch, attempt, or_instruction};
+ghost use Rattle.encoding.specs.Code.{instruction_of};
 ghost use Rattle.registers.specs.Meaning.{res_of, core_of};
 
 use arguments::Seen;
 use definition::{Cell, Error, Executed, Instruction};
+use encoding::Code;
 use registers::Plan;
 
 // "A fetched cell that is no instruction raises code 2 with pc moved on."
@@ -22,6 +24,19 @@ fn decoded(v: Cell) -> Result<Instruction, Error>
         return Err(Error::InvalidInstruction);
     }
     Ok(encoding::decode((v.tag as u32) - 2, v.first, v.second))
+}
+
+// The same, with what its numbers say left until it is asked for; none where the cell is no instruction.
+#[inline(always)]
+pub fn code_in(v: Cell) -> Option<Code>
+    requires { sound v ≡ true }
+    ensures value { MatchOption result (extract_instruction v ≡ None) (λ i. extract_instruction v ≡ Some (instruction_of i)) }
+    ensures cheap { IfSome result (λ i. i.cycles ≤ 3) }
+{
+    if v.tag < 2 {
+        return None;
+    }
+    Some(encoding::code_of((v.tag as u32) - 2, v.first, v.second))
 }
 
 // "Fetch at pc outside the cells raises code 5 with pc unmoved."

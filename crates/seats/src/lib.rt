@@ -24,49 +24,99 @@ pub struct Buffers<'a> {
     pub rows: &'a mut [i64],
 }
 
+// "places within the seat", which is at place k of n. No struct of the two, nor n in Buffers: k
+// goes over the seats, and the buffers stand before n is known to be 1 to 16. Nor are the four
+// slices of a check Buffers, which are lent mutably: a check only reads, and takes shared ones.
+pub fn seat_check(
+    cells: &[i64],
+    queues: &[u8],
+    outputs: &[u8],
+    rows: &[i64],
+    n: usize,
+    k: usize,
+) -> Result<(), Refusal>
+    requires { k < n }
+    ensures { done_of result ≡ run_check (machine_at n k (lent cells.now queues.now outputs.now rows.now)) }
+{
+    refusals::run_check(
+        part(cells, n, k),
+        part(queues, n, k),
+        part(outputs, n, k),
+        part(rows, n, k),
+    )
+}
+
+// "The others are then checked seat by seat, lowest first".
+pub fn seats_check(
+    cells: &[i64],
+    queues: &[u8],
+    outputs: &[u8],
+    rows: &[i64],
+    n: usize,
+) -> Result<(), Refused>
+    ensures { checked_of result ≡ seat_by_seat 1 (machines n n 0 (lent cells.now queues.now outputs.now rows.now)) }
+{
+    for k in 0..n {
+        seat_check(cells, queues, outputs, rows, n, k).map_err(|e| Refused::Machine(
+            k as u64 + 1,
+            e,
+        ))?;
+    }
+    Ok(())
+}
+
+// 19 first: without it there are no parts.
+#[tactic(auto, unfolding(bench::specs::Bench::bench_check))]
+pub fn bench_check(
+    list: usize,
+    cells: &[i64],
+    queues: &[u8],
+    outputs: &[u8],
+    rows: &[i64],
+    seats: u64,
+) -> Result<(), Refused>
+    ensures { checked_of result ≡ bench_check seats list (lent cells.now queues.now outputs.now rows.now) }
+{
+    let fit = seats_fit(
+        list,
+        cells.len(),
+        queues.len(),
+        outputs.len(),
+        rows.len(),
+        seats,
+    );
+    if !fit {
+        return Err(Refused::Seats);
+    }
+    seats_check(cells, queues, outputs, rows, seats as usize)
+}
+
 impl Buffers<'_> {
-    // "places within the seat", which is at place k of n. No struct of the two, nor n in Buffers: k
-    // goes over the seats, and the buffers stand before n is known to be 1 to 16.
+    // The checks of what is lent, here and in the next two.
     pub fn seat_check(&self, n: usize, k: usize) -> Result<(), Refusal>
         requires { k < n }
         ensures { done_of result ≡ run_check (machine_at n k (lent_of self.now)) }
     {
-        refusals::run_check(
-            part(self.cells, n, k),
-            part(self.queues, n, k),
-            part(self.outputs, n, k),
-            part(self.rows, n, k),
-        )
+        seat_check(self.cells, self.queues, self.outputs, self.rows, n, k)
     }
 
-    // "The others are then checked seat by seat, lowest first".
     pub fn seats_check(&self, n: usize) -> Result<(), Refused>
         ensures { checked_of result ≡ seat_by_seat 1 (machines n n 0 (lent_of self.now)) }
     {
-        for k in 0..n {
-            self.seat_check(n, k)
-                .map_err(|e| Refused::Machine(k as u64 + 1, e))?;
-        }
-        Ok(())
+        seats_check(self.cells, self.queues, self.outputs, self.rows, n)
     }
 
-    // 19 first: without it there are no parts.
-    #[tactic(auto, unfolding(bench::specs::Bench::bench_check))]
     pub fn bench_check(&self, list: usize, seats: u64) -> Result<(), Refused>
         ensures { checked_of result ≡ bench_check seats list (lent_of self.now) }
     {
-        let fit = seats_fit(
+        bench_check(
             list,
-            self.cells.len(),
-            self.queues.len(),
-            self.outputs.len(),
-            self.rows.len(),
+            self.cells,
+            self.queues,
+            self.outputs,
+            self.rows,
             seats,
-        );
-        if !fit {
-            return Err(Refused::Seats);
-        }
-        self.seats_check(seats as usize)
+        )
     }
 
     // A run of the machine at place k of n.

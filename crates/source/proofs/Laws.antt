@@ -1,5 +1,5 @@
 -- How the reading of a file goes on. Assumes nothing.
-use Rattle.std.proofs.Common.{◌≡◌, refl, sym, ap, ◌∙◌, Bool, true, false, List, [], ◌∷◌, ℕ, zero, suc, ◌-◌, ◌<◌, ◌≤◌, arith, eqb, ne_eqb, length, get_or, take, drop, Option, Some, None, ℤ, Result}
+use Rattle.std.proofs.Common.{◌≡◌, refl, sym, ap, ◌∙◌, Bool, true, false, cond, List, [], ◌∷◌, ℕ, zero, suc, ◌-◌, ◌<◌, ◌≤◌, arith, eqb, ne_eqb, length, get_or, take, drop, Option, Some, None, ℤ, Result}
 use Rattle.std.proofs.Math.Seq.{take_all}
 use Rattle.definition.specs.declared.Counted.{Counted}
 use Rattle.source.specs.declared.Refused.{Refused}
@@ -7,8 +7,12 @@ use Rattle.definition.specs.Calls.{called}
 use Rattle.expression.specs.Reader.{head, tail, past}
 use Rattle.expression.specs.Table.{is_inner, next_line}
 use Rattle.lines.specs.declared.Reader.{Reader}
+use Rattle.lines.specs.Reader.{following}
+use Rattle.expression.proofs.Spans.{by_bool}
+use lib.Dec.{ltb}
+use mathlib.Core.Bool.{not, ◌&&◌}
 use Rattle.assembly.specs.Assemble.{assemble_call}
-use Rattle.source.specs.Source.{start_read, first_line, start_good, after_number, numeric_from, begins_numeric, line_after, numeric_line, lowest_numeric, judged, loaded, loading}
+use Rattle.source.specs.Source.{start_read, first_line, start_good, after_number, numeric_from, begins_numeric, line_after, numeric_line, lowest_numeric, done, done_of, is18, judged, assembler_answer, text_judged, loaded, loading}
 use Rattle.source.proofs.Fronts.{first_is, rest_is}
 
 -- ---- numeric lines
@@ -64,9 +68,23 @@ module _ (t line rest : List ℕ) (r : Reader) (front-is : line ≡ first_line t
   unfolding next_line
   program = rest_is rest ∙ ap tail past-is
 
-  pub loading-text : (cells : List ℤ) (a : Counted) (left : List ℤ) → called a left ≡ assemble_call (take (length rest - 1) (drop 1 rest)) cells → (n : Option ℕ) → n ≡ lowest_numeric (take (length rest - 1) (drop 1 rest)) → (x : Result (Unit {0}) Refused) → x ≡ judged a n → called (loaded x r.start) left ≡ loading t cells
+  pub loading-text : (cells : List ℤ) (a : Counted) (left : List ℤ) → called a left ≡ assemble_call (take (length rest - 1) (drop 1 rest)) cells → (n : Option ℕ) → n ≡ lowest_numeric (take (length rest - 1) (drop 1 rest)) → (x : Result (Unit {0}) Refused) → x ≡ text_judged a n → called (loaded x r.start) left ≡ loading t cells
   unfolding loading
   loading-text cells a left h n l x j =
       let m = h ∙ ap (λ (u : List ℕ). assemble_call u cells) program in
       let k = l ∙ ap lowest_numeric program in
       rw (good, ← m, ← k, ← j, start-is)
+
+-- ---- what is judged as a Result is what is judged by numbers
+
+abbrev or_0 : Option ℕ → ℕ
+or_0 None = 0
+or_0 (Some n) = n
+
+told-as : (a : Counted) → done_of (assembler_answer a) ≡ cond (eqb a.refusal 0) (done 0 0) (done a.refusal (following a.place))
+told-as a = by_bool (eqb a.refusal 0) (λ e. rw e) (λ e. rw e)
+
+pub judged-as : (a : Counted) (n : Option ℕ) → done_of (text_judged a n) ≡ judged a (or_0 n)
+unfolding text_judged judged is18
+judged-as a None = told-as a
+judged-as a (Some n) = by_bool (ltb 0 n && not (eqb a.refusal 13 && ltb a.place n)) (λ e. rw e) (λ e. rw e (told-as a))

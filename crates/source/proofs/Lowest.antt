@@ -3,7 +3,7 @@ use mathlib.Core.Path.{◌≡◌, refl, sym, ap, ◌∙◌, subst}
 use mathlib.Core.Bool.{Bool, true, false, not, ◌&&◌}
 use mathlib.Core.List.{List, [], ◌∷◌, map}
 use mathlib.Core.Option as M
-use Rattle.std.specs.Prelude.{Option, Some, None, Result, Ok, Err}
+use Rattle.std.specs.Prelude.{Option, Some, None, Err}
 use Prim.Native.Nat.{ℕ, zero, suc, ◌+◌, ◌≤◌, ◌<◌}
 use native.Mathlib.Omega.{arith}
 use lib.Dec.{eqb, ltb}
@@ -23,11 +23,10 @@ use Rattle.assembly.specs.Reader.{Text, lines, broken, rows}
 use Rattle.assembly.specs.Assemble.{Assembled, cells, refuses, otherwise, lowest, wrong_labels, wrong_values, line_values, place_in, labels_of, line_cell, assembled, assemble, answered, assemble_call}
 use Rattle.assembly.specs.Assemble as J
 use Rattle.definition.specs.Calls.{Called, called}
-use Rattle.lines.specs.declared.Start.{Start}
 use Rattle.definition.specs.declared.Done.{Done}
-use Rattle.source.specs.declared.Refused.{Refused}
+use Rattle.source.specs.declared.Loaded.{Loaded}
 use Rattle.definition.specs.declared.answers.Refusal.TheVariants.{ImageLine}
-use Rattle.source.specs.Source.{start_read, first_line, loaded, start_good, is_numeric, numeric_from, after_number, after_minus, begins_numeric, line_after, numeric_line, lowest_numeric, refused, done_of, is18, assembler_answer, judged, loading}
+use Rattle.source.specs.Source.{start_read, first_line, loaded, start_good, is_numeric, numeric_from, after_number, after_minus, begins_numeric, line_after, numeric_line, lowest_numeric, refused, done_of, is18, assembler_answer, text_judged, loading}
 use Rattle.source.specs.Theorems.{From, here, on, past, LowestNumeric, NoNumericTo, NoNumeric, answer, made, Small, LowestOf18, LowestOf13, ThenTheOthers}
 use Rattle.source.proofs.Laws.{numeric-first, numeric-next}
 use Rattle.source.proofs.Decimals.{exactly}
@@ -186,16 +185,16 @@ module _ (a : Counted) where
       (λ z. absurd (let y : ◌≡◌ {A = ℕ} 0 (suc m) = rw z at h in omega arith))
       (λ z. rw z (rw z at h, refl))
 
-  by-18 : (a.refusal ≡ 18 → ⊥) → (n : Option ℕ) → (done_of (judged a n)).refusal ≡ 18 → (k : ℕ) × ((n ≡ Some k) × ((is18 a k ≡ true) × ((done_of (judged a n)).place ≡ following k)))
-  unfolding judged
+  by-18 : (a.refusal ≡ 18 → ⊥) → (n : Option ℕ) → (done_of (text_judged a n)).refusal ≡ 18 → (k : ℕ) × ((n ≡ Some k) × ((is18 a k ≡ true) × ((done_of (text_judged a n)).place ≡ following k)))
+  unfolding text_judged
   by-18 l None h = absurd (l (told-is 17 h).0)
   by-18 l (Some k) h =
       by_bool (is18 a k)
       (λ e. (k, (refl, (e, rw e refl))))
       (λ e. absurd (l (told-is 17 (rw e at h)).0))
 
-  by-other : (n : Option ℕ) (m : ℕ) → (done_of (judged a n)).refusal ≡ suc m → (suc m ≡ 18 → ⊥) → ((k : ℕ) → n ≡ Some k → is18 a k ≡ false) × ((a.refusal ≡ suc m) × ((done_of (judged a n)).place ≡ following a.place))
-  unfolding judged
+  by-other : (n : Option ℕ) (m : ℕ) → (done_of (text_judged a n)).refusal ≡ suc m → (suc m ≡ 18 → ⊥) → ((k : ℕ) → n ≡ Some k → is18 a k ≡ false) × ((a.refusal ≡ suc m) × ((done_of (text_judged a n)).place ≡ following a.place))
+  unfolding text_judged
   by-other None m h c = (λ k e. absurd (cc), told-is m h)
   by-other (Some k) m h c =
       by_bool (is18 a k)
@@ -220,10 +219,6 @@ module _ (a : Counted) where
     unfolding is18
     none-18 h e r = clash (rw (lt-ltb 0 k h, ne_eqb a.refusal 13 r) refl) e
 
-done-loaded : (x : Result (Unit {0}) Refused) (s : Start) → done_of (loaded x s) ≡ done_of x
-done-loaded (Ok u) s = refl
-done-loaded (Err e) s = refl
-
 -- ---- the theorems
 
 module _ (t : List ℕ) where
@@ -233,23 +228,23 @@ module _ (t : List ℕ) where
   abbrev pub number : Option ℕ
   number = lowest_numeric (next_line t)
 
-  pub good-loading : start_good t ≡ true → loading t empty_cells ≡ called (loaded (judged call number) (start_read (first_line t)).start) (answered (made t) empty_cells).left
+  pub good-loading : start_good t ≡ true → loading t empty_cells ≡ called (loaded (text_judged call number) (start_read (first_line t)).start) (answered (made t) empty_cells).left
   unfolding loading
   good-loading e = rw (e, called_is (next_line t))
 
-  pub bad-loading : start_good t ≡ false → loading t empty_cells ≡ called (Err (refused (ImageLine 1))) empty_cells
+  pub bad-loading : start_good t ≡ false → loading t empty_cells ≡ called (loaded (Err (refused (ImageLine 1))) (start_read (first_line t)).start) empty_cells
   unfolding loading
   bad-loading e = rw e
 
-  abbrev answered-by : Called (Result Start Refused) (List ℤ) → Done
-  answered-by x = done_of x.answer
+  abbrev answered-by : Called Loaded (List ℤ) → Done
+  answered-by x = done_of x.answer.outcome
 
   -- a refusal other than 12 is one of the judgement
-  judgement : (m : ℕ) → 12 ≤ m → (answer t).refusal ≡ suc m → answer t ≡ done_of (judged call number)
+  judgement : (m : ℕ) → 12 ≤ m → (answer t).refusal ≡ suc m → answer t ≡ done_of (text_judged call number)
   judgement m l h =
       by_bool (start_good t)
-      (λ e. ap answered-by (good-loading e) ∙ done-loaded (judged call number) (start_read (first_line t)).start)
-      (λ e. absurd (let y : ◌≡◌ {A = ℕ} 12 (suc m) = ap (λ (x : Called (Result Start Refused) (List ℤ)). (answered-by x).refusal) (sym (bad-loading e)) ∙ h in omega arith))
+      (λ e. ap answered-by (good-loading e))
+      (λ e. absurd (let y : ◌≡◌ {A = ℕ} 12 (suc m) = ap (λ (x : Called Loaded (List ℤ)). (answered-by x).refusal) (sym (bad-loading e)) ∙ h in omega arith))
 
   call-not-18 : call.refusal ≡ 18 → ⊥
   call-not-18 h = let b = number_in (next_line t) 18 call.place (answer-is (made t) 17 h) in absurd (omega arith)

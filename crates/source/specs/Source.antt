@@ -14,6 +14,7 @@ use Rattle.assembly.specs.Assemble.{assemble_call}
 use Rattle.lines.specs.declared.Reader.{Reader}
 use Rattle.lines.specs.declared.Start.{Start}
 use Rattle.source.specs.declared.Refused.{Refused}
+use Rattle.source.specs.declared.Loaded.{Loaded}
 use Rattle.lines.specs.Reader.{has_digits, opened, broken, within, following, start_line}
 
 -- "A file over 32,768 bytes is 13 at the line where it passes them, or 12 if that is the start line": the byte that passes them reads as 0, which no line may
@@ -74,36 +75,42 @@ lowest_numeric t = numeric_line 1 true t
 
 -- ---- which refusal a file gets
 
+abbrev pub done : ℕ → ℕ → Done
+done r p = record { refusal = r; place = p }
+
 abbrev pub refused : Refusal → Refused
 refused e = record { number = number_of e; place = place_of e }
 
 -- The number and the place, 0 and 0 where nothing is refused.
 abbrev pub done_of : {A : Type 0} → Result A Refused → Done
-done_of (Ok _) = record { refusal = 0; place = 0 }
-done_of (Err e) = record { refusal = e.number; place = e.place }
+done_of (Ok _) = done 0 0
+done_of (Err e) = done e.number e.place
 
 -- "of 13 and 18 the lowest line counts, 18 on a tie": a is what the text is answered by the assembler, n a numeric line, both counted from the text's first
 -- line.
 unfoldable pub is18 : Counted → ℕ → Bool
 is18 a n = ltb 0 n && not (eqb a.refusal 13 && ltb a.place n)
 
+-- "after 12 in this order": 13 or 18, then 14, then 15. "Lines count from the start line." n is the lowest numeric line, 0 where there is none.
+unfoldable pub judged : Counted → ℕ → Done
+judged a n = cond (is18 a n) (done 18 (following n)) (cond (eqb a.refusal 0) (done 0 0) (done a.refusal (following a.place)))
+
 -- The assembler's answer, at a line of the file.
 abbrev pub assembler_answer : Counted → Result (Unit {0}) Refused
 assembler_answer a = cond (eqb a.refusal 0) (Ok tt) (Err (record { number = a.refusal; place = following a.place }))
 
--- "after 12 in this order": 13 or 18, then 14, then 15. "Lines count from the start line." The numeric line is the lowest, if there is one.
-unfoldable pub judged : Counted → Option ℕ → Result (Unit {0}) Refused
-judged a None = assembler_answer a
-judged a (Some n) = cond (is18 a n) (Err (refused (NumericLine (following n)))) (assembler_answer a)
+-- The same as a Result, of the lowest numeric line, if there is one.
+unfoldable pub text_judged : Counted → Option ℕ → Result (Unit {0}) Refused
+text_judged a None = assembler_answer a
+text_judged a (Some n) = cond (is18 a n) (Err (refused (NumericLine (following n)))) (assembler_answer a)
 
--- What the start line says, where nothing is refused.
-abbrev pub loaded : Result (Unit {0}) Refused → Start → Result Start Refused
-loaded (Ok _) s = Ok s
-loaded (Err e) s = Err e
+-- What the start line says is told of a file that is refused, too.
+abbrev pub loaded : Result (Unit {0}) Refused → Start → Loaded
+loaded d s = record { start = s; outcome = d }
 
 -- A text within the limit, loaded from cell 0.
-unfoldable pub loading : List ℕ → List ℤ → Called (Result Start Refused) (List ℤ)
+unfoldable pub loading : List ℕ → List ℤ → Called Loaded (List ℤ)
 loading t cells =
     let s = (start_read (first_line t)).start in
     let m = assemble_call (next_line t) cells in
-    cond (start_good t) (called (loaded (judged m.answer (lowest_numeric (next_line t))) s) m.left) (called (Err (refused (ImageLine 1))) cells)
+    cond (start_good t) (called (loaded (text_judged m.answer (lowest_numeric (next_line t))) s) m.left) (called (loaded (Err (refused (ImageLine 1))) s) cells)

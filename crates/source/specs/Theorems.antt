@@ -52,7 +52,7 @@ NoNumeric t = (n : ℕ) → NoNumericTo t n
 
 -- A file within the limit, its text loaded into the runner's 2,048 cells. "Lines count from the start line": line n of the text is line `following n` of the file.
 abbrev pub answer : List ℕ → Done
-answer t = done_of (loading t empty_cells).answer
+answer t = done_of (loading t empty_cells).answer.outcome
 
 abbrev pub made : List ℕ → Assembled
 made t = assemble 2048 (next_line t)

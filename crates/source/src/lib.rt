@@ -8,9 +8,10 @@ ghost use Rattle.std.specs.Prelude.{◌≡◌};
 ghost use Rattle.definition.specs.Answers.{counted_of};
 ghost use Rattle.definition.specs.Calls.{called};
 ghost use Rattle.lines.specs.Reader.{opened, within};
-ghost use Rattle.source.specs.Source.{bounded, start_end, start_read, refused, is18, assembler_answer, judged, loading};
+ghost use Rattle.source.specs.Source.{bounded, start_end, start_read, refused, is18, judged, assembler_answer, text_judged, loading};
 
 use definition::answers::Refusal;
+use definition::{Counted, Done};
 use expression::text::split_line;
 use lines::line::following_line;
 use lines::{Reader, Start};
@@ -34,6 +35,13 @@ impl From<Refusal> for Refused {
             place: e.place(),
         }
     }
+}
+
+// What became of a file: why it is refused, if it is, and what its start line says, of a refused file too.
+#[derive(Clone, Copy)]
+pub struct Loaded {
+    pub start: Start,
+    pub outcome: Result<(), Refused>,
 }
 
 // The file as far as it is looked at.
@@ -81,10 +89,40 @@ pub fn read_start(line: &[u8]) -> Reader
 
 // "of 13 and 18 the lowest line counts, 18 on a tie". 0 < n holds of every line that is found; the definition asks it of any number.
 #[tactic(auto, unfolding(crate::specs::Source::is18))]
-pub fn is_18(a: Result<u64, Refusal>, n: u64) -> bool
+pub fn is_18(a: Counted, n: u64) -> bool
+    ensures { result ≡ is18 a n }
+{
+    0 < n && !(a.refusal == 13 && a.place < n)
+}
+
+// Lines count from the start line; n is 0 where no line is numeric.
+#[tactic(auto, unfolding(crate::specs::Source::judged))]
+pub fn judge(a: Counted, n: u64) -> Done
+    ensures { result ≡ judged a n }
+{
+    if is_18(a, n) {
+        return Done {
+            refusal: 18,
+            place: following_line(n),
+        };
+    }
+    if a.refusal == 0 {
+        return Done {
+            refusal: 0,
+            place: 0,
+        };
+    }
+    Done {
+        refusal: a.refusal,
+        place: following_line(a.place),
+    }
+}
+
+// Whether this numeric line is what the text is refused for.
+pub fn numeric_counts(a: Result<u64, Refusal>, n: u64) -> bool
     ensures { result ≡ is18 (counted_of a) n }
 {
-    0 < n && !matches!(a, Err(Refusal::Form(line)) if line < n)
+    is_18(Counted::from(a), n)
 }
 
 // What the assembler answered, at a line of the file: lines count from the start line.
@@ -100,30 +138,38 @@ pub fn assembled(a: Result<u64, Refusal>) -> Result<(), Refused>
     }
 }
 
-#[tactic(auto, using(crate::proofs::Fronts::fronts), unfolding(crate::specs::Source::judged))]
-pub fn judge(a: Result<u64, Refusal>, numeric: Option<u64>) -> Result<(), Refused>
-    ensures { result ≡ judged (counted_of a) numeric }
+#[tactic(auto, using(crate::proofs::Fronts::fronts), unfolding(crate::specs::Source::text_judged))]
+pub fn judge_text(a: Result<u64, Refusal>, numeric: Option<u64>) -> Result<(), Refused>
+    ensures { result ≡ text_judged (counted_of a) numeric }
 {
     match numeric {
-        Some(n) if is_18(a, n) => Err(Refused::from(Refusal::NumericLine(following_line(n)))),
+        Some(n) if numeric_counts(a, n) => Err(Refused::from(Refusal::NumericLine(following_line(
+            n,
+        )))),
         _ => assembled(a),
     }
 }
 
 // What the start line says of a text, loaded into the cells.
 #[tactic(auto, using(crate::proofs::Fronts::fronts), unfolding(crate::specs::Source::loading, crate::specs::Source::start_good))]
-pub fn load(t: &[u8], cells: &mut [i64]) -> Result<Start, Refused>
+pub fn load(t: &[u8], cells: &mut [i64]) -> Loaded
     ensures { called result cells.new ≡ loading t.now cells.old }
 {
     let (line, rest) = split_line(t);
     let r = read_start(line);
+    let no_start = Loaded {
+        start: r.start,
+        outcome: Err(Refused::from(Refusal::ImageLine(1))),
+    };
     let [b'\n', program @ ..] = rest else {
-        return Err(Refused::from(Refusal::ImageLine(1)));
+        return no_start;
     };
     if r.broken {
-        return Err(Refused::from(Refusal::ImageLine(1)));
+        return no_start;
     }
     let a = assembler::fill(program, cells);
-    judge(a, numeric::lowest_numeric(program))?;
-    Ok(r.start)
+    Loaded {
+        outcome: judge_text(a, numeric::lowest_numeric(program)),
+        ..no_start
+    }
 }

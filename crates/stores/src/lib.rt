@@ -59,6 +59,7 @@ pub fn st(cells: &[i64], guard: u32, p: &mut Plan, r: Reg, y: Operand) -> Result
 }
 
 #[tactic(auto, unfolding(registers::specs::Meaning::res_of, definition::specs::Instructions::jump, definition::specs::Exec::and_then))]
+#[inline(always)]
 pub fn jump(seen: &Seen<'_>, s: &mut Registers, x: Operand) -> Result<(), Error>
     ensures { res_of result (core (cells_of seen.now) s.new) ≡ jump x (core (cells_of seen.now) s.old) }
 {

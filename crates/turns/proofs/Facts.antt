@@ -51,7 +51,7 @@ module _ (list : List Seat) (b : Lent) (accepted : IsAccepted list b) (t : ℕ) 
 
   module _ (some : 0 < t) (can : list_any can_go_on list ≡ true) (after : Bench) (is : after ≡ round_of (lent_bench t list b)) where
     pub more-same : finished after ≡ finished (lent_bench t list b)
-    more-same = ap finished is ∙ finished-round (lent_bench t list b) g.all_in (goes-on-if (length list) list b g t some can)
+    more-same = ap finished is ∙ finished-round (lent_bench t list b) g.all_in
 
     pub more-falls : fuel after < fuel (lent_bench t list b)
     more-falls = subst (λ (x : Bench). fuel x < fuel (lent_bench t list b)) (sym is) (fuel-falls (lent_bench t list b) g.all_in (goes-on-if (length list) list b g t some can))

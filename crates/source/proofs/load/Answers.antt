@@ -1,18 +1,9 @@
 use Rattle.std.proofs.Common.{◌≡◌, arith, get_or}
-use Rattle.std.proofs.lemmas.Result.{err_from_is_err_and}
 use Rattle.definition.specs.Answers.{counted_of}
 use Rattle.source.proofs.Laws.{loading-text}
 use Rattle.source.proofs.load.Goals as goal
 
-pub returns-in_err-judge : goal.returns-in_err-judge
-returns-in_err-judge c =
-    let e : get_or c.split_line.result.1.now 0 0 ≡ 10 = omega arith in
-    let l = loading-text c.args.t.now _ _ c.read_start-r.result c.split_line.ensures.0 c.split_line.ensures.1 c.read_start-r.ensures e c.if-r.false c.args.cells.now (counted_of c.fill-a.result) c.fill-a.new.image c.fill-a.ensures c.lowest_numeric.result c.lowest_numeric.ensures c.judge.result c.judge.ensures in
-    let p = err_from_is_err_and c.from_residual.result c.from_residual.ensures.1 in
-    rw (p.1, p.2) (rw c.in_err-judge.was at l)
-
 pub returns : goal.returns
 returns c =
     let e : get_or c.split_line.result.1.now 0 0 ≡ 10 = omega arith in
-    let l = loading-text c.args.t.now _ _ c.read_start-r.result c.split_line.ensures.0 c.split_line.ensures.1 c.read_start-r.ensures e c.if-r.false c.args.cells.now (counted_of c.fill-a.result) c.fill-a.new.image c.fill-a.ensures c.lowest_numeric.result c.lowest_numeric.ensures c.judge.result c.judge.ensures in
-    rw c.in_ok-judge.was at l
+    loading-text c.args.t.now _ _ c.read_start-r.result c.split_line.ensures.0 c.split_line.ensures.1 c.read_start-r.ensures e c.if-r.false c.args.cells.now (counted_of c.fill-a.result) c.fill-a.new.image c.fill-a.ensures c.lowest_numeric.result c.lowest_numeric.ensures c.judge_text.result c.judge_text.ensures
