@@ -1,6 +1,6 @@
 -- The table of labels, line by line. Assumes nothing.
 use mathlib.Core.Path.{◌≡◌, refl, sym, ap, ◌∙◌, fun_ext}
-use mathlib.Core.Bool.{cond}
+use mathlib.Core.Bool.{true, cond}
 use mathlib.Core.List.{List, [], ◌∷◌, ◌++◌}
 use mathlib.Core.Option.{Option, some, none}
 use Prim.Native.Nat.{ℕ, zero, suc, ◌+◌, ◌*◌, ◌%◌, ◌≤◌, ◌<◌}
@@ -11,10 +11,12 @@ use lib.Dec.{eqb}
 use borrow.Author.Tests.{eqb-true, eqb-false}
 use Rattle.std.specs.Prelude.{Some, None, slice_get}
 use Rattle.std.specs.Prelude as O
+use Rattle.std.specs.Option.{is_some}
 use Rattle.expression.specs.declared.labels.Entry.{Entry}
 use Rattle.expression.specs.declared.labels.Lines.{Lines}
 use Rattle.expression.specs.declared.labels.Labels.{Labels}
 use Rattle.expression.specs.Reader.{gives, refused, same}
+use Rattle.expression.specs.Code.{place_found}
 use Rattle.expression.specs.Table.{label_at, next_line, setting, hash_from}
 use Rattle.expression.specs.Labels.{line_of, line_at, or_else, among, held, guess, guessed, kept, lookup, IsEmpty, Pushed, Inserted, Left}
 use Rattle.expression.proofs.Spans.{by_bool}
@@ -139,6 +141,11 @@ module _ (s : List ℕ) (T : Labels) (t : List ℕ) (k : ℕ) (some-text : 1 ≤
           guessed = guess-added T T' name k q c.guessed z;
           found = λ m. ap (λ (x : Option ℕ). or_else x (setting (next_line t) (k + 1) m)) (kept-added T T' name k q c.guessed z m) ∙ (or-or (kept T m) (cond (same name m) (some k) none) (setting (next_line t) (k + 1) m) ∙ (ap (or_else (kept T m)) (line-again m) ∙ c.found m));
         }
+
+    -- a label that is held already
+    pub line-held : (o : O.Option ℕ) → place_found o ≡ kept T name → is_some o ≡ true → Collected s T (next_line t) (k + 1)
+    line-held (Some j) e f = line-by (some j) T (sym e) refl
+    line-held None e f = cc
 
     pub line-labelled : (T' : Labels) → Inserted (kept T name) T T' name k → Collected s T' (next_line t) (k + 1)
     line-labelled T' q = line-by (kept T name) T' refl q

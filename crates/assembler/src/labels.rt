@@ -6,14 +6,20 @@ ghost use Rattle.expression.specs.Labels.{lookup};
 use expression::labels::{Labels, Lines};
 use expression::text::split_label;
 
+// Where the table is full, up to the line of another label: a name that no line sets is sought in the lines behind it, and there are none if no
+// line sets another.
 pub fn collect(text: &[u8]) -> Labels<'_>
     ensures { lookup result ≡ setting text.now 0 }
 {
     let mut labels = Labels::new();
     let mut lines = Lines::new(text);
-    while !lines.text.is_empty() && !labels.is_full() {
+    while !lines.text.is_empty() {
         if let Some((name, _)) = split_label(lines.text) {
-            labels.insert(name, lines.number);
+            if !labels.is_full() {
+                labels.insert(name, lines.number);
+            } else if labels.find_kept(name).is_none() {
+                break;
+            }
         }
         lines = lines.rest();
     }

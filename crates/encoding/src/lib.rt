@@ -189,6 +189,7 @@ impl Code {
         reg_at(self.r2)
     }
 
+    #[inline(always)]
     pub fn instruction(&self) -> Instruction
         ensures { result ≡ instruction_of self.now }
     {
@@ -224,6 +225,7 @@ pub fn code_of(t: u32, first: i64, second: i64) -> Code
 }
 
 // What t, an instruction's tag less 2, says of the instruction.
+#[inline(always)]
 pub fn decode(t: u32, first: i64, second: i64) -> Instruction
     requires { (t < 29700) × (legal (op_number t) (mode₁ t) (mode₂ t) ≡ true) }
     ensures { result ≡ decode t first second }

@@ -1,4 +1,4 @@
-// A cell's line.
+// A cell's line. What makes it stands in line: of what a cell decodes to only what is written is worked out, and no line is copied.
 ghost use Rattle.std.specs.Prelude.{◌≡◌, true, ◌++◌, ◌+◌, ◌≤◌, length};
 ghost use Rattle.definition.specs.Encoding.{sound};
 ghost use Rattle.listing.specs.Listing.{word_text, line_text};
@@ -21,6 +21,7 @@ pub fn put_word<const N: usize>(text: &mut Text<N>, w: i64)
     text.put_number(w);
 }
 
+#[inline(always)]
 pub fn put_instruction<const N: usize>(text: &mut Text<N>, i: Instruction)
     requires { length text.old + length (instruction i) ≤ N }
     ensures { text.new ≡ text.old ++ instruction i }
@@ -30,6 +31,7 @@ pub fn put_instruction<const N: usize>(text: &mut Text<N>, i: Instruction)
 }
 
 // "an empty cell as `.word 0`": both its numbers are 0.
+#[inline(always)]
 pub fn put_content<const N: usize>(text: &mut Text<N>, v: Cell)
     requires sound { sound v ≡ true }
     requires room { length text.old + length (cell_text v) ≤ N }
@@ -44,6 +46,7 @@ pub fn put_content<const N: usize>(text: &mut Text<N>, v: Cell)
 }
 
 #[tactic(auto, using(crate::proofs::Pieces::shorts), unfolding(crate::specs::Listing::line_text))]
+#[inline(always)]
 pub fn line_of(v: Cell) -> Line
     requires { sound v ≡ true }
     ensures { result ≡ line_text v }

@@ -64,6 +64,7 @@ fn is_absent(x: Operand) -> bool
 
 // What follows a mnemonic.
 #[tactic(auto, using(printing::proofs::Laws::texts))]
+#[inline(always)]
 pub fn put_operands<const N: usize>(text: &mut Text<N>, x: Operand, y: Operand)
     requires { length text.old + length (operands x y) ≤ N }
     ensures { text.new ≡ text.old ++ operands x y }

@@ -2,8 +2,8 @@ use Rattle.std.proofs.Common.{length}
 use Rattle.assembler.specs.Meaning.{Collected}
 use Rattle.assembler.proofs.labels.collect.Given as goal
 
-abbrev pub invariant-loop-labels : goal.invariant-loop-labels
-invariant-loop-labels l = Collected l.text l.labels l.lines.text.now l.lines.number
+abbrev pub invariant-loop-name : goal.invariant-loop-name
+invariant-loop-name l = Collected l.text l.labels l.lines.text.now l.lines.number
 
-abbrev pub decreases-loop-labels : goal.decreases-loop-labels
-decreases-loop-labels l = length l.lines.text.now
+abbrev pub decreases-loop-name : goal.decreases-loop-name
+decreases-loop-name l = length l.lines.text.now
