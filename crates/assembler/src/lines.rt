@@ -17,8 +17,12 @@ pub fn count_lines(text: &[u8], labels: &Labels, room: usize) -> Result<usize, R
     let mut rest = text;
     let mut count = 0;
     while !rest.is_empty() {
+        // Where no cell is left the line is not read.
+        if count == room {
+            return Err(Refusal::Form(count as u64 + 1));
+        }
         match row(rest, labels) {
-            Some((_, after)) if count < room => {
+            Some((_, after)) => {
                 rest = after;
                 count += 1;
             }
