@@ -26,7 +26,8 @@ pub fn coded(op: u32, x: Arg, y: Arg, rest: &[u8]) -> Read<'_, Body>
     }
 }
 
-// The operands of an operation after its mnemonic: none, one, or two with a comma between.
+// The operands of an operation after its mnemonic: none, one, or two with a comma between. In line, as content is: a body that is read is large.
+#[inline(always)]
 pub fn operands<'a>(op: u32, s: &'a [u8], labels: &Labels) -> Read<'a, Body>
     requires { op < 33 }
     ensures { read_as body_told result ≡ operands (values (lookup labels.now)) 32 op s.now }
@@ -52,6 +53,7 @@ pub fn word_after<'a>(s: &'a [u8], labels: &Labels) -> Read<'a, Body>
     Some((Body::Word(value), rest))
 }
 
+#[inline(always)]
 pub fn content<'a>(s: &'a [u8], labels: &Labels) -> Read<'a, Body>
     ensures { read_as body_told result ≡ content (values (lookup labels.now)) 32 s.now }
 {
