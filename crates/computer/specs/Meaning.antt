@@ -6,7 +6,10 @@ use Rattle.definition.specs.declared.Request.{Request}
 use Rattle.definition.specs.declared.Request.TheVariants.{Nothing}
 use Rattle.definition.specs.declared.Op.{Op}
 use Rattle.definition.specs.declared.Op.TheVariants.{Call, Fas, Neg, Nop, Not, Out, Pop, Push, Reset, Rti, Rtn, St, Swap, Trap}
-use Rattle.definition.specs.Memory.{cell_count}
+use Rattle.definition.specs.declared.Cell.{Cell}
+use Rattle.definition.specs.declared.Instruction.{Instruction}
+use Rattle.definition.specs.Encoding.{extract_instruction}
+use Rattle.definition.specs.Memory.{cell_count, get}
 use Rattle.definition.specs.Registers.{with_pc}
 use Rattle.definition.specs.Exec.{Core, core, Res, ok, and_then, return}
 use Rattle.encoding.specs.declared.Code.{Code}
@@ -54,3 +57,10 @@ pub record Usual (l : List ℤ) (size : ℕ) (m : State) (i : Code) : Type 0 whe
   pub cheap : i.cycles ≤ 3
   pub far : m.cycles < NEAR
   pub room : i.op ≡ Out → m.k.written < size
+
+-- Why a step from m is none: stop 7 may be near, there is no instruction at pc, or an out may find the output record full.
+pub data Unusual (l : List ℤ) (size : ℕ) (m : State) : Type 0 where
+  near : NEAR ≤ m.cycles → Unusual l size m
+  outside : get l m.s.pc ≡ None → Unusual l size m
+  no_instruction : (v : Cell) → get l m.s.pc ≡ Some v → extract_instruction v ≡ None → Unusual l size m
+  full : (v : Cell) (i : Instruction) → get l m.s.pc ≡ Some v → extract_instruction v ≡ Some i → i.op ≡ Out → size ≤ m.k.written → Unusual l size m

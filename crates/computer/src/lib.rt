@@ -12,10 +12,10 @@ ghost use Rattle.computer.specs.Meaning.{run_of, ran_of};
 use definition::{Ran, Stop};
 use row::State;
 
-pub mod quiet;
-pub mod serve;
-pub mod usual;
-pub mod writes;
+mod quiet;
+mod serve;
+mod usual;
+mod writes;
 
 // Where a run got: its stop, unless the budget is spent.
 #[derive(Clone, Copy)]

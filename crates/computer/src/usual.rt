@@ -1,7 +1,7 @@
 // The usual step, in place: one in which nothing would have to be undone. It is far from the last cycle, so that stop 7 doesn't come, and no out
 // that may find the output record full, so that stop 6 doesn't. Each other step is decided before it is written (docs/SPEED.md).
 
-ghost use Rattle.std.specs.Prelude.{◌≡◌, ◌+◌, ◌<◌, ◌≤◌, ◌^◌, true, List, ℕ, length, IfSome};
+ghost use Rattle.std.specs.Prelude.{◌≡◌, ◌+◌, ◌<◌, ◌≤◌, ◌^◌, true, false, List, ℕ, length, IfSome, IfNone};
 ghost use Rattle.definition.specs.declared.Op.TheVariants.{Out};
 ghost use Rattle.definition.specs.Memory.{cell_count, cell_at};
 ghost use Rattle.definition.specs.Encoding.{sound};
@@ -9,33 +9,39 @@ ghost use Rattle.definition.specs.Accepted.{AcceptedMachine};
 ghost use Rattle.definition.specs.Runtime.{turn, settle, step};
 ghost use Rattle.row.specs.Meaning.{machine_at};
 ghost use Rattle.runtime.specs.Meaning.{turn_of, outcome_of};
-ghost use Rattle.computer.specs.Meaning.{Usual};
+ghost use Rattle.computer.specs.Meaning.{Usual, Unusual};
 
 use definition::{Ending, Op, Stop};
 use encoding::Code;
 use row::State;
 
-// So many cycles, and no stop 7 is near.
+// Below so many cycles no stop 7 is near.
 const NEAR: u64 = 0x4000_0000_0000_0000;
 
 // The instruction at pc, if its step is a usual one; `size` is the output record's.
 #[inline(always)]
 pub fn usual(cells: &[i64], size: usize, m: &State) -> Option<Code>
     requires { (n : ℕ) → n < cell_count cells.now → sound (cell_at cells.now n) ≡ true }
-    ensures { IfSome result (λ i. Usual cells.now size m.now i) }
+    ensures usual { IfSome result (λ i. Usual cells.now size m.now i) }
+    ensures unusual { IfNone result (Unusual cells.now size m.now) }
 {
     if NEAR <= m.cycles {
         return None;
     }
-    let v = memory::get(cells, m.s.pc)?;
-    let i = runtime::fetch::code_in(v)?;
+    let Some(v) = memory::get(cells, m.s.pc) else {
+        return None;
+    };
+    let Some(i) = runtime::fetch::code_in(v) else {
+        return None;
+    };
     if has_room(&i, size, m) { Some(i) } else { None }
 }
 
 // Does the step not depend on whether the output record, of this size, is full?
 #[inline(always)]
 fn has_room(i: &Code, size: usize, m: &State) -> bool
-    ensures { result ≡ true → i.now.op ≡ Out → m.now.k.written < size }
+    ensures room { result ≡ true → i.now.op ≡ Out → m.now.k.written < size }
+    ensures full { result ≡ false → (i.now.op ≡ Out) × (size ≤ m.now.k.written) }
 {
     match i.op {
         Op::Out => m.k.written < size,

@@ -1,4 +1,4 @@
-// What a step or a raise decided is written here and nowhere else.
+// The cells and the byte that a step or a raise writes are written here and nowhere else.
 
 ghost use Rattle.std.specs.Prelude.{◌≡◌, ◌≤◌, ◌<◌, List, ℕ, Some, IfSome, length};
 ghost use Rattle.definition.specs.Memory.{cell_count};

@@ -137,7 +137,7 @@ fn arrive(
     serve(queue, output, m, f, x)
 }
 
-// Inlined, as settle is, into both runs, without a journal and with one: of two callers neither would be else, and a step of either takes longer.
+// Inlined, as settle is, into computer's decided step and the step with a journal: of two callers neither would be else, and a step of either takes longer.
 #[inline(always)]
 pub fn take_turn(cells: &[i64], queue: &[u8], output: &[u8], m: &State) -> Turn
     requires { AcceptedMachine (machine_at cells.now queue.now output.now m.now) }
