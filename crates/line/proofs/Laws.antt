@@ -15,7 +15,7 @@ use Rattle.expression.specs.Reader.{same, Outcome, gives, refused, then, head, t
 use Rattle.expression.specs.Values.{values, no_labels}
 use Rattle.expression.specs.Table.{is_labelled, label_at}
 use Rattle.expression.specs.Code.{after}
-use Rattle.expression.proofs.Spans.{by_bool, clash, first-is, empty-first}
+use Rattle.expression.proofs.Spans.{by_bool, clash, first-is, empty-first, past_head, past-none}
 use Rattle.expression.proofs.Chain.{never, rest_of, value_of}
 use Rattle.expression.proofs.Laws.{opens, shuts}
 use Rattle.assembly.specs.Grammar as G
@@ -220,6 +220,15 @@ ended-step p n o = refl
 pub ended-any : (p : List ℕ → Option ℕ) (n : Option (List ℕ)) (o : Outcome (G.Body Value)) (u t : List ℕ) → o ≡ content (values p) 32 u → u ≡ skip t → ended (values no_labels) 32 n o ≡ ended (values p) 32 n (content (values p) 32 (skip t))
 unfolding ended
 ended-any p n o u t e f = rw (e, f) refl
+
+space-ends : is_space 0 ≡ false
+unfolding is_space
+space-ends = refl
+
+-- the label of a text, of what follows its spaces
+pub label-after : (t u : List ℕ) (o : Outcome (List ℕ)) → u ≡ skip t → o ≡ label_at u → o ≡ label_at t
+unfolding label_at is_labelled
+label-after t u o a e = e ∙ rw (a, past-none is_space (skip t) (past_head is_space t space-ends))
 
 module _ (p : List ℕ → Option ℕ) (t : List ℕ) where
   labelled : (n u : List ℕ) → gives n u ≡ label_at t → (is_labelled t ≡ true) × (n ≡ front is_letter (skip t)) × (u ≡ tail (past is_letter (skip t)))

@@ -83,9 +83,10 @@ pub fn ended<'a>(label: Option<&'a [u8]>, body: Read<'a, Body>) -> Read<'a, Line
 pub fn row<'a>(s: &'a [u8], labels: &Labels) -> Read<'a, Line<'a>>
     ensures { read_as line_told result ≡ row (values (lookup labels.now)) 32 s.now }
 {
+    let s = skip_spaces(s);
     match split_label(s) {
         Some((name, _)) if name.len() > 16 => None,
         Some((name, rest)) => ended(Some(name), content(skip_spaces(rest), labels)),
-        None => ended(None, content(skip_spaces(s), labels)),
+        None => ended(None, content(s, labels)),
     }
 }

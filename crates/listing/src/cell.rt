@@ -1,12 +1,14 @@
 // A cell's line. What makes it stands in line: of what a cell decodes to only what is written is worked out, and no line is copied.
 ghost use Rattle.std.specs.Prelude.{◌≡◌, true, ◌++◌, ◌+◌, ◌≤◌, length};
 ghost use Rattle.definition.specs.Encoding.{sound};
+ghost use Rattle.encoding.specs.Code.{instruction_of};
 ghost use Rattle.listing.specs.Listing.{word_text, line_text};
 ghost use Rattle.listing.specs.Pieces.{instruction, cell_text};
 
 use super::names::mnemonic;
 use super::operand::put_operands;
-use definition::{Cell, Instruction};
+use definition::Cell;
+use encoding::Code;
 use printing::Text;
 
 /// Room for any line.
@@ -22,12 +24,12 @@ pub fn put_word<const N: usize>(text: &mut Text<N>, w: i64)
 }
 
 #[inline(always)]
-pub fn put_instruction<const N: usize>(text: &mut Text<N>, i: Instruction)
-    requires { length text.old + length (instruction i) ≤ N }
-    ensures { text.new ≡ text.old ++ instruction i }
+pub fn put_instruction<const N: usize>(text: &mut Text<N>, i: &Code)
+    requires { length text.old + length (instruction (instruction_of i.now)) ≤ N }
+    ensures { text.new ≡ text.old ++ instruction (instruction_of i.now) }
 {
     text.put(mnemonic(i.op));
-    put_operands(text, i.x, i.y);
+    put_operands(text, i);
 }
 
 // "an empty cell as `.word 0`": both its numbers are 0.
@@ -41,18 +43,17 @@ pub fn put_content<const N: usize>(text: &mut Text<N>, v: Cell)
         put_word(text, v.first);
     } else {
         let t = (v.tag as u32) - 2;
-        put_instruction(text, encoding::decode(t, v.first, v.second));
+        put_instruction(text, &encoding::code_of(t, v.first, v.second));
     }
 }
 
 #[tactic(auto, using(crate::proofs::Pieces::shorts), unfolding(crate::specs::Listing::line_text))]
 #[inline(always)]
-pub fn line_of(v: Cell) -> Line
+pub fn put_line(line: &mut Line, v: Cell)
     requires { sound v ≡ true }
-    ensures { result ≡ line_text v }
+    ensures { line.new ≡ line_text v }
 {
-    let mut text = Line::new();
-    put_content(&mut text, v);
-    text.push(b'\n');
-    text
+    line.clear();
+    put_content(line, v);
+    line.push(b'\n');
 }

@@ -6,7 +6,7 @@ ghost use Rattle.listing.specs.Listing.{image_cells, any_empty};
 ghost use Rattle.listing.specs.Call.{image_text, in_front};
 ghost use Rattle.listing.specs.Pieces.{fitted};
 
-use super::cell::line_of;
+use super::cell::{Line, put_line};
 use memory::get_cell;
 
 #[tactic(auto, using(crate::proofs::Cells::steps))]
@@ -23,8 +23,9 @@ pub fn measure(image: &[i64], room: usize) -> Option<usize>
     ensures { result ≡ fitted (length (image_text image.now)) room }
 {
     let mut left = room;
+    let mut line = Line::new();
     for n in 0..image.len() / 3 {
-        let line = line_of(get_cell(image, n));
+        put_line(&mut line, get_cell(image, n));
         left = left.checked_sub(line.as_bytes().len())?;
     }
     Some(room - left)
@@ -38,8 +39,9 @@ pub fn write(image: &[i64], text: &mut [u8])
     ensures { text.new ≡ in_front (image_text image.now) text.old }
 {
     let mut at = 0;
+    let mut line = Line::new();
     for n in 0..image.len() / 3 {
-        let line = line_of(get_cell(image, n));
+        put_line(&mut line, get_cell(image, n));
         let bytes = line.as_bytes();
         let end = at + bytes.len();
         word::copy::copy(&mut text[at..end], bytes);

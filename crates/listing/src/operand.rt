@@ -1,10 +1,12 @@
 // An instruction's operands as text.
 ghost use Rattle.std.specs.Prelude.{◌≡◌, ◌++◌, ◌+◌, ◌≤◌, length};
+ghost use Rattle.encoding.specs.Code.{instruction_of};
 ghost use Rattle.listing.specs.Listing.{index_text};
 ghost use Rattle.listing.specs.Pieces.{named, operand, is_absent, operands};
 
 use super::names::register;
 use definition::{Operand, Reg};
+use encoding::Code;
 use printing::Text;
 
 // `%` and a name
@@ -65,15 +67,17 @@ fn is_absent(x: Operand) -> bool
 // What follows a mnemonic.
 #[tactic(auto, using(printing::proofs::Laws::texts))]
 #[inline(always)]
-pub fn put_operands<const N: usize>(text: &mut Text<N>, x: Operand, y: Operand)
-    requires { length text.old + length (operands x y) ≤ N }
-    ensures { text.new ≡ text.old ++ operands x y }
+pub fn put_operands<const N: usize>(text: &mut Text<N>, i: &Code)
+    requires { length text.old + length (operands (instruction_of i.now).x (instruction_of i.now).y) ≤ N }
+    ensures { text.new ≡ text.old ++ operands (instruction_of i.now).x (instruction_of i.now).y }
 {
+    let x = i.x();
     if is_absent(x) {
         return;
     }
     text.push(b' ');
     put_operand(text, x);
+    let y = i.y();
     if is_absent(y) {
         return;
     }

@@ -1,6 +1,7 @@
-use Rattle.std.proofs.Common.{ap, length, arith, rules}
+use Rattle.std.proofs.Common.{ap, ◌∙◌, length, arith, rules}
 use Rattle.word.proofs.Laws.{back}
 use Rattle.definition.specs.Encoding.{sound}
+use Rattle.listing.specs.Pieces.{instruction}
 use Rattle.listing.proofs.Pieces.{plain-text, code-tag, code-legal, code-text}
 use Rattle.listing.proofs.cell.put_content.Goals as goal
 
@@ -21,16 +22,16 @@ overflow_cast-t g c = let v = c.args.v in let b = back v.tag (omega arith) in rw
 pub overflow_sub-t : goal.overflow_sub-t
 overflow_sub-t g c = let v = c.args.v in let b = back v.tag (omega arith) in rw b (code-tag v c.requires.sound (rw b at c.if-v-lt2.false)).least
 
-pub decode-requires : goal.decode-requires
-decode-requires g c = let v = c.args.v in let b = back v.tag (omega arith) in let h = rw b at c.if-v-lt2.false in
+pub code_of-requires : goal.code_of-requires
+code_of-requires g c = let v = c.args.v in let b = back v.tag (omega arith) in let h = rw b at c.if-v-lt2.false in
     rw b ((code-tag v c.requires.sound h).most, code-legal v c.requires.sound h)
 
 pub put_instruction-requires : goal.put_instruction-requires
 put_instruction-requires g c = let v = c.args.v in let b = back v.tag (omega arith) in
-    let d = rw (b, back v.first (omega arith), back v.second (omega arith)) at c.decode.ensures in
-    rw (d, code-text v c.requires.sound (rw b at c.if-v-lt2.false)) (search rules)
+    let d = rw (b, back v.first (omega arith), back v.second (omega arith)) at c.code_of.ensures in
+    rw (ap instruction d ∙ code-text v c.requires.sound (rw b at c.if-v-lt2.false)) (search rules)
 
 pub returns-else-v-lt2 : goal.returns-else-v-lt2
 returns-else-v-lt2 g c = let v = c.args.v in let b = back v.tag (omega arith) in
-    let d = rw (b, back v.first (omega arith), back v.second (omega arith)) at c.decode.ensures in
-    rw (d, code-text v c.requires.sound (rw b at c.if-v-lt2.false)) at c.put_instruction.ensures
+    let d = rw (b, back v.first (omega arith), back v.second (omega arith)) at c.code_of.ensures in
+    rw (ap instruction d ∙ code-text v c.requires.sound (rw b at c.if-v-lt2.false)) at c.put_instruction.ensures
