@@ -48,26 +48,24 @@ fn leave_of(word: &[u8]) -> bool
 }
 
 #[tactic(auto, using(report::proofs::Laws::refusal_short))]
-fn refusal(e: Refusal) -> Listing
-    ensures { result ≡ refusal_text (number_of e) (place_of e) }
+fn refusal(e: Refusal, text: &mut Listing)
+    ensures { text.new ≡ refusal_text (number_of e) (place_of e) }
 {
-    let mut text = Text::new();
+    text.clear();
     text.put(report::refusal(e.number(), e.place()).as_bytes());
-    text
 }
 
 // Card 3's text, or its refusal. The text is copied from a room of its own: a `Text` that lent its bytes would lend those behind its end, which its model hides.
-fn list_image(image: &[i64], leave: bool) -> Listing
-    ensures { result ≡ listing_text leave image.now }
+fn list_image(image: &[i64], leave: bool, text: &mut Listing)
+    ensures { text.new ≡ listing_text leave image.now }
 {
     let mut room = [0u8; 163840];
     match listing::listed(image, &mut room, leave) {
         Ok(bytes) => {
-            let mut text = Text::new();
+            text.clear();
             text.put(&room[..bytes as usize]);
-            text
         }
-        Err(e) => refusal(e),
+        Err(e) => refusal(e, text),
     }
 }
 
@@ -79,29 +77,31 @@ fn named_cells(cells: &[i64; 6144], named: u64) -> &[i64]
     &cells[..end]
 }
 
-// What is printed of what was read.
+// What is printed of what was read. Into a text that the caller has: one of this size that is answered is copied at each return.
 #[tactic(auto, unfolding(crate::specs::Output::output_of))]
-fn list_seen(seen: &Seen, leave: bool) -> Listing
-    ensures { result ≡ output_of leave seen.now }
+fn list_seen(seen: &Seen, leave: bool, text: &mut Listing)
+    ensures { text.new ≡ output_of leave seen.now }
 {
-    if let Some(line) = seen.state.reader.broken_line() {
-        return refusal(Refusal::ImageLine(line));
+    match seen.state.reader.broken_line() {
+        Some(line) => refusal(Refusal::ImageLine(line), text),
+        None => list_image(named_cells(&seen.state.cells, seen.named), leave, text),
     }
-    list_image(named_cells(&seen.state.cells, seen.named), leave)
 }
 
 // What is printed of what `from` gives, whole.
-fn list_input<R: Read>(from: &mut R, word: &[u8]) -> std::io::Result<Listing>
-    ensures { IfOk result (ListsInput (R.remaining from.old) word.now) }
+fn list_input<R: Read>(from: &mut R, word: &[u8], text: &mut Listing) -> std::io::Result<()>
+    ensures { IfOk result (λ _. ListsInput (R.remaining from.old) word.now text.new) }
 {
     let seen = read_all(from)?;
-    Ok(list_seen(&seen, leave_of(word)))
+    list_seen(&seen, leave_of(word), text);
+    Ok(())
 }
 
 // Prints the listing of what standard input gives, or says on standard error why it could not be read.
 fn print_input(rt: &HostRuntime, word: &[u8]) -> std::io::Result<()> {
-    match list_input(&mut rt.stdin(), word) {
-        Ok(text) => {
+    let mut text = Text::new();
+    match list_input(&mut rt.stdin(), word, &mut text) {
+        Ok(()) => {
             io::write_all(STDOUT, text.as_bytes());
             Ok(())
         }

@@ -14,7 +14,7 @@ slice_bounds-put-end c = let t = text-put c.args.leave c.args.image.now _ (count
 
 pub returns-in-Ok : goal.returns-in-Ok
 returns-in-Ok c = let t = text-put c.args.leave c.args.image.now _ (counted_of (Ok c.in-Ok.bytes)) (rw c.in-Ok.is at c.listed.ensures) refl in
-    rw (c.put.ensures, c.new-text.ensures) t.0
+    rw (c.put.ensures, c.clear.ensures) t.0
 
 pub returns-in-Err : goal.returns-in-Err
 returns-in-Err c = c.refusal.ensures ∙ refusal-put c.args.leave c.args.image.now _ (counted_of (Err c.in-Err.e)) (rw c.in-Err.is at c.listed.ensures) (λ z. let n = numbered c.in-Err.e in omega arith)
