@@ -5,7 +5,7 @@
 
 mod seen;
 
-ghost use Rattle.std.specs.Prelude.{◌≡◌, ◌*◌, IfOk, take};
+ghost use Rattle.std.specs.Prelude.{◌≡◌, ◌*◌, IfOk, IfErr, take};
 ghost use Rattle.definition.specs.Answers.{number_of, place_of};
 ghost use Rattle.report.specs.Text.{refusal_text};
 ghost use Rattle.lister.specs.Output.{leave_of, listing_text, output_of, SeesInput, ListsInput};
@@ -88,9 +88,10 @@ fn list_seen(seen: &Seen, leave: bool, text: &mut Listing)
     }
 }
 
-// What is printed of what `from` gives, whole.
+// What is printed of what `from` gives, whole. Where that cannot be read the text stays as it was.
 fn list_input<R: Read>(from: &mut R, word: &[u8], text: &mut Listing) -> std::io::Result<()>
-    ensures { IfOk result (λ _. ListsInput (R.remaining from.old) word.now text.new) }
+    ensures listed { IfOk result (λ _. ListsInput (R.remaining from.old) word.now text.new) }
+    ensures kept { IfErr result (λ _. text.new ≡ text.old) }
 {
     let seen = read_all(from)?;
     list_seen(&seen, leave_of(word), text);

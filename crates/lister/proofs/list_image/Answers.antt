@@ -1,4 +1,4 @@
-use Rattle.std.proofs.Common.{◌∙◌, ap, sym, refl, arith, length, take}
+use Rattle.std.proofs.Common.{◌∙◌, sym, refl, arith}
 use lib.Seq.{length-take-le}
 use Rattle.std.specs.Prelude.{Ok, Err}
 use Rattle.definition.specs.Answers.{counted_of}
