@@ -1,17 +1,17 @@
 // The second pass: where each label is set.
 ghost use Rattle.std.specs.Prelude.{◌≡◌};
 ghost use Rattle.expression.specs.Table.{setting};
-ghost use Rattle.expression.specs.Labels.{lookup};
+ghost use Rattle.expression.specs.Labels.{lookup, IsEmpty};
 
 use expression::labels::{Labels, Lines};
 use expression::text::split_label;
 
 // Where the table is full, up to the line of another label: a name that no line sets is sought in the lines behind it, and there are none if no
 // line sets another.
-pub fn collect(text: &[u8]) -> Labels<'_>
-    ensures { lookup result ≡ setting text.now 0 }
+pub fn collect<'a>(text: &'a [u8], labels: &mut Labels<'a>)
+    requires { IsEmpty labels.old }
+    ensures { lookup labels.new ≡ setting text.now 0 }
 {
-    let mut labels = Labels::new();
     let mut lines = Lines::new(text);
     while !lines.text.is_empty() {
         if let Some((name, _)) = split_label(lines.text) {
@@ -24,5 +24,4 @@ pub fn collect(text: &[u8]) -> Labels<'_>
         lines = lines.rest();
     }
     labels.leave(lines);
-    labels
 }

@@ -28,8 +28,10 @@ pub fn fill(text: &[u8], image: &mut [i64]) -> Result<u64, Refusal>
     ensures { called (counted_of result) image.new ≡ assemble_call text.now image.old }
 {
     check(image.len() % 3 == 0, Refusal::Image)?;
-    let count = lines::count_lines(text, &Labels::new(), image.len() / 3)?;
-    let labels = labels::collect(text);
+    // Made once: while it is empty the first pass reads by it.
+    let mut labels = Labels::new();
+    let count = lines::count_lines(text, &labels, image.len() / 3)?;
+    labels::collect(text, &mut labels);
     judge::judge(text, &labels, count)?;
     write::write(text, &labels, count, image);
     Ok(count as u64)

@@ -13,20 +13,20 @@ returns-in_err-check c =
 pub returns-in_err-count : goal.returns-in_err-count
 returns-in_err-count c =
     let x = err_from_is_err_and c.from_residual-in_err-count.result c.from_residual-in_err-count.ensures.1 in
-    rw (x.1, x.2) (call-broken c.args.text.now c.args.image.now (even-by _ _ c.in_ok-check.ensures) (lookup c.new.result) _ c.in_err-count.ensures)
+    rw (x.1, x.2) (call-broken c.args.text.now c.args.image.now (even-by _ _ c.in_ok-check.ensures) (lookup c.new-labels.result) _ c.in_err-count.ensures)
 
 pub judge-requires : goal.judge-requires
-judge-requires c = is-whole c.args.text.now c.args.image.now (even-by _ _ c.in_ok-check.ensures) (lookup c.new.result) _ c.in_ok-count.ensures (lookup c.collect-labels.result)
+judge-requires c = is-whole c.args.text.now c.args.image.now (even-by _ _ c.in_ok-check.ensures) (lookup c.new-labels.result) _ c.in_ok-count.ensures (lookup c.collect.new.labels)
 
 pub returns-in_err-judge : goal.returns-in_err-judge
 returns-in_err-judge c =
     let x = err_from_is_err_and c.from_residual-in_err-judge.result c.from_residual-in_err-judge.ensures.1 in
-    rw (x.1, x.2) (call-refused c.args.text.now c.args.image.now (even-by _ _ c.in_ok-check.ensures) (lookup c.new.result) _ c.in_ok-count.ensures (lookup c.collect-labels.result) c.collect-labels.ensures _ c.in_err-judge.ensures)
+    rw (x.1, x.2) (call-refused c.args.text.now c.args.image.now (even-by _ _ c.in_ok-check.ensures) (lookup c.new-labels.result) _ c.in_ok-count.ensures (lookup c.collect.new.labels) c.collect.ensures _ c.in_err-judge.ensures)
 
 pub write-requires : goal.write-requires
 write-requires c =
-    let r = count_room c.args.text.now c.args.image.now (even-by _ _ c.in_ok-check.ensures) (lookup c.new.result) _ c.in_ok-count.ensures in
-    (is-whole c.args.text.now c.args.image.now (even-by _ _ c.in_ok-check.ensures) (lookup c.new.result) _ c.in_ok-count.ensures (lookup c.collect-labels.result), omega arith)
+    let r = count_room c.args.text.now c.args.image.now (even-by _ _ c.in_ok-check.ensures) (lookup c.new-labels.result) _ c.in_ok-count.ensures in
+    (is-whole c.args.text.now c.args.image.now (even-by _ _ c.in_ok-check.ensures) (lookup c.new-labels.result) _ c.in_ok-count.ensures (lookup c.collect.new.labels), omega arith)
 
 pub returns : goal.returns
-returns c = call-cells c.args.text.now c.args.image.now (even-by _ _ c.in_ok-check.ensures) (lookup c.new.result) _ c.in_ok-count.ensures (lookup c.collect-labels.result) c.collect-labels.ensures _ _ c.in_ok-judge.ensures c.write.ensures
+returns c = call-cells c.args.text.now c.args.image.now (even-by _ _ c.in_ok-check.ensures) (lookup c.new-labels.result) _ c.in_ok-count.ensures (lookup c.collect.new.labels) c.collect.ensures _ _ c.in_ok-judge.ensures c.write.ensures

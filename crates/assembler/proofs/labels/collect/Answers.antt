@@ -6,7 +6,7 @@ use Rattle.assembler.proofs.labels.collect.Goals.{in-Some+then-not-is_full, in-S
 use Rattle.assembler.proofs.labels.collect.Goals as goal
 
 pub loop-name-init : goal.loop-name-init
-loop-name-init c = collected-none c.args.text.now _ _ _ c.new-labels.ensures c.new-lines.ensures.0 c.new-lines.ensures.1
+loop-name-init c = collected-none c.args.text.now _ _ _ c.requires c.new-lines.ensures.0 c.new-lines.ensures.1
 
 pub loop-name-smaller : goal.loop-name-smaller
 loop-name-smaller c = rw c.rest-lines.ensures.0 (next-less c.loop-name.lines.text.now (grind (arith, common_steps)))
