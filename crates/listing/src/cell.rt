@@ -6,8 +6,8 @@ ghost use Rattle.listing.specs.Listing.{word_text, line_text};
 ghost use Rattle.listing.specs.Pieces.{instruction, cell_text};
 
 use super::names::mnemonic;
-use super::operand::put_operands;
-use definition::Cell;
+use super::operand::{put_operands, put_operands_of};
+use definition::{Cell, Instruction};
 use encoding::Code;
 use printing::Text;
 
@@ -23,13 +23,22 @@ pub fn put_word<const N: usize>(text: &mut Text<N>, w: i64)
     text.put_number(w);
 }
 
+pub fn put_instruction<const N: usize>(text: &mut Text<N>, i: Instruction)
+    requires { length text.old + length (instruction i) ≤ N }
+    ensures { text.new ≡ text.old ++ instruction i }
+{
+    text.put(mnemonic(i.op));
+    put_operands(text, i.x, i.y);
+}
+
+// The instruction of a cell taken apart.
 #[inline(always)]
-pub fn put_instruction<const N: usize>(text: &mut Text<N>, i: &Code)
+pub fn put_instruction_of<const N: usize>(text: &mut Text<N>, i: &Code)
     requires { length text.old + length (instruction (instruction_of i.now)) ≤ N }
     ensures { text.new ≡ text.old ++ instruction (instruction_of i.now) }
 {
     text.put(mnemonic(i.op));
-    put_operands(text, i);
+    put_operands_of(text, i);
 }
 
 // "an empty cell as `.word 0`": both its numbers are 0.
@@ -43,7 +52,7 @@ pub fn put_content<const N: usize>(text: &mut Text<N>, v: Cell)
         put_word(text, v.first);
     } else {
         let t = (v.tag as u32) - 2;
-        put_instruction(text, &encoding::code_of(t, v.first, v.second));
+        put_instruction_of(text, &encoding::code_of(t, v.first, v.second));
     }
 }
 
@@ -56,4 +65,28 @@ pub fn put_line(line: &mut Line, v: Cell)
     line.clear();
     put_content(line, v);
     line.push(b'\n');
+}
+
+#[cfg(test)]
+mod tests {
+    use super::*;
+    use definition::{Op, Operand, Reg};
+    use std::test::Fail;
+
+    #[tactic(auto, using(printing::proofs::Laws::texts))]
+    #[test]
+    fn puts_an_instruction(rt: HostRuntime) -> Result<(), Fail> {
+        let mut text = Line::new();
+        let i = Instruction {
+            op: Op::Add,
+            x: Operand::Imm(5),
+            y: Operand::Register(Reg::B),
+            r1: Reg::A,
+            r2: Reg::B,
+            cycles: 1,
+        };
+        put_instruction(&mut text, i);
+        assert_eq!(rt; text.as_bytes(), b"add 5, %b".as_slice());
+        Ok(())
+    }
 }

@@ -66,8 +66,26 @@ fn is_absent(x: Operand) -> bool
 
 // What follows a mnemonic.
 #[tactic(auto, using(printing::proofs::Laws::texts))]
+pub fn put_operands<const N: usize>(text: &mut Text<N>, x: Operand, y: Operand)
+    requires { length text.old + length (operands x y) ≤ N }
+    ensures { text.new ≡ text.old ++ operands x y }
+{
+    if is_absent(x) {
+        return;
+    }
+    text.push(b' ');
+    put_operand(text, x);
+    if is_absent(y) {
+        return;
+    }
+    text.put(&[b',', b' ']);
+    put_operand(text, y);
+}
+
+// Of a cell taken apart: where the first operand is absent the second is not made.
+#[tactic(auto, using(printing::proofs::Laws::texts))]
 #[inline(always)]
-pub fn put_operands<const N: usize>(text: &mut Text<N>, i: &Code)
+pub fn put_operands_of<const N: usize>(text: &mut Text<N>, i: &Code)
     requires { length text.old + length (operands (instruction_of i.now).x (instruction_of i.now).y) ≤ N }
     ensures { text.new ≡ text.old ++ operands (instruction_of i.now).x (instruction_of i.now).y }
 {
@@ -83,4 +101,25 @@ pub fn put_operands<const N: usize>(text: &mut Text<N>, i: &Code)
     }
     text.put(b", ");
     put_operand(text, y);
+}
+
+#[cfg(test)]
+mod tests {
+    use super::*;
+    use std::test::Fail;
+
+    #[tactic(auto, using(printing::proofs::Laws::texts), unfolding(crate::specs::Listing::index_text))]
+    #[test]
+    fn puts_operands(rt: HostRuntime) -> Result<(), Fail> {
+        let mut text = Text::<80>::new();
+        put_operands(&mut text, Operand::Idx(Reg::SP, 0), Operand::Dir(-7));
+        assert_eq!(rt; text.as_bytes(), b" [%sp+0], [-7]".as_slice());
+        text.clear();
+        put_operands(&mut text, Operand::Ind(Reg::B), Operand::Absent);
+        assert_eq!(rt; text.as_bytes(), b" [%b]".as_slice());
+        text.clear();
+        put_operands(&mut text, Operand::Absent, Operand::Imm(1));
+        assert_eq!(rt; text.as_bytes(), b"".as_slice());
+        Ok(())
+    }
 }

@@ -26,12 +26,12 @@ pub code_of-requires : goal.code_of-requires
 code_of-requires g c = let v = c.args.v in let b = back v.tag (omega arith) in let h = rw b at c.if-v-lt2.false in
     rw b ((code-tag v c.requires.sound h).most, code-legal v c.requires.sound h)
 
-pub put_instruction-requires : goal.put_instruction-requires
-put_instruction-requires g c = let v = c.args.v in let b = back v.tag (omega arith) in
+pub put_instruction_of-requires : goal.put_instruction_of-requires
+put_instruction_of-requires g c = let v = c.args.v in let b = back v.tag (omega arith) in
     let d = rw (b, back v.first (omega arith), back v.second (omega arith)) at c.code_of.ensures in
     rw (ap instruction d ∙ code-text v c.requires.sound (rw b at c.if-v-lt2.false)) (search rules)
 
 pub returns-else-v-lt2 : goal.returns-else-v-lt2
 returns-else-v-lt2 g c = let v = c.args.v in let b = back v.tag (omega arith) in
     let d = rw (b, back v.first (omega arith), back v.second (omega arith)) at c.code_of.ensures in
-    rw (ap instruction d ∙ code-text v c.requires.sound (rw b at c.if-v-lt2.false)) at c.put_instruction.ensures
+    rw (ap instruction d ∙ code-text v c.requires.sound (rw b at c.if-v-lt2.false)) at c.put_instruction_of.ensures
